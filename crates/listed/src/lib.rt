@@ -1,0 +1,11 @@
+//! Plain values: copies that equal their originals, an exact comparison, and lists and queues that contracts see as lists.
+#![tactic(auto)]
+
+mod list;
+mod plain;
+
+pub use list::Listed;
+pub use plain::Plain;
+
+#[cfg(test)]
+mod tests;
