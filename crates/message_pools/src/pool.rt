@@ -1,0 +1,106 @@
+//! A queue whose items are numbered in the order of their coming.
+ghost use Rattle.std.specs.Prelude.{◌≡◌, ◌+◌, ◌<◌, ◌≤◌, ◌^◌, ◌↔◌, [], length, IsTrue, OnOk, option_map};
+ghost use Rattle.message_pools.specs.Queue.{empty_queue, next_number, head_of, rest_of, with_last, flushed};
+
+use crate::item::Item;
+use std::alloc::{AllocError, Global};
+use std::collections::VecDeque;
+use std::marker::Model;
+
+/// The items that wait, first in, first out. Contracts see the queue, and beside it the room that was
+/// reserved, so that a put that follows a `reserve` can't fail.
+#[derive(Debug, Drop)]
+pub struct Pool {
+    items: VecDeque<Item>,
+    first: u64,
+}
+
+impl Model for Pool {
+    ghost use Rattle.std.specs.Prelude.{◌+◌, ◌-◌, ◌≤◌, ◌^◌};
+    ghost use Rattle.std.specs.VecDeque.{deque_len, deque_capacity};
+    ghost use Rattle.message_pools.specs.Queue.{Reserved};
+
+    ghost Value = { Reserved };
+
+    ghost view = { λ p. record {
+        queue = record { first = p.first; items = p.items.items };
+        spare = deque_capacity p.items - deque_len p.items } };
+
+    ghost invariant = { λ p. p.first + deque_len p.items ≤ 2 ^ 63 };
+}
+
+impl Pool {
+    /// A pool to which nothing has come. It takes no memory.
+    pub fn new(alloc: Global) -> Pool
+        ensures { result.queue ≡ empty_queue }
+    {
+        Pool {
+            items: VecDeque::new(alloc),
+            first: 0,
+        }
+    }
+
+    /// Makes room for `more` items. The queue is the same whatever the answer.
+    pub fn reserve(&mut self, more: usize) -> Result<(), AllocError>
+        ensures room { OnOk result (more ≤ self.new.spare) }
+        ensures kept { self.old.spare ≤ self.new.spare }
+        ensures queue { self.new.queue ≡ self.old.queue }
+    {
+        self.items.reserve(more)
+    }
+
+    /// Puts an item last, and answers its number.
+    pub fn put(&mut self, item: Item) -> u64
+        requires room { 0 < self.old.spare }
+        requires numbers { next_number self.old.queue < 2 ^ 63 }
+        ensures number { result ≡ next_number self.old.queue }
+        ensures queue { self.new.queue ≡ with_last self.old.queue item }
+        ensures spare { self.new.spare + 1 ≡ self.old.spare }
+    {
+        let number = self.first + self.items.len() as u64;
+        self.items.push_back(item).unwrap();
+        number
+    }
+
+    /// The first item and its number.
+    pub fn head(&self) -> Option<(u64, &Item)>
+        ensures { option_map (λ head. (head.0, head.1.now)) result ≡ head_of self.now.queue }
+    {
+        let item = self.items.front()?;
+        Some((self.first, item))
+    }
+
+    /// Takes the first item out, with its number.
+    pub fn take(&mut self) -> Option<(u64, Item)>
+        ensures item { result ≡ head_of self.old.queue }
+        ensures rest { self.new.queue ≡ rest_of self.old.queue }
+        ensures spare { self.old.spare ≤ self.new.spare }
+    {
+        let item = self.items.pop_front()?;
+        let number = self.first;
+        self.first += 1;
+        Some((number, item))
+    }
+
+    /// Throws away all that waits.
+    pub fn flush(&mut self)
+        ensures queue { self.new.queue ≡ flushed self.old.queue }
+        ensures spare { self.old.spare ≤ self.new.spare }
+    {
+        self.first += self.items.len() as u64;
+        self.items.clear();
+    }
+
+    /// How many items wait.
+    pub fn len(&self) -> usize
+        ensures { result ≡ length self.now.queue.items }
+    {
+        self.items.len()
+    }
+
+    pub fn is_empty(&self) -> bool
+        ensures { IsTrue result ↔ (self.now.queue.items ≡ []) }
+    {
+        self.items.is_empty()
+    }
+}
