@@ -1,0 +1,5 @@
+pub mod Adapted
+pub mod Causes
+pub mod Failures
+pub mod Memory
+pub mod Taken
