@@ -1,2 +1,5 @@
+pub mod Field
 pub mod Header
+pub mod Match
 pub mod Packet
+pub mod Wire

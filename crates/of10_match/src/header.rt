@@ -1,5 +1,6 @@
 //! The fields of a packet that a match can name.
 
+ghost use Rattle.std.specs.Prelude.{◌≡◌, ◌↔◌, IsTrue};
 ghost use Rattle.listed.specs.Plain.{plain};
 
 use listed::Plain;
@@ -33,6 +34,18 @@ pub struct Header {
     pub tp_src: u16,
     /// TCP or UDP destination port, or ICMP code.
     pub tp_dst: u16,
+}
+
+impl Header {
+    ghost use Rattle.of10_match.specs.Header.{IsValidHeader};
+
+    /// Whether each field lies within its width: the types see to all but the two Ethernet addresses.
+    pub fn is_valid(&self) -> bool
+        ensures { IsTrue result ↔ IsValidHeader self.now }
+    {
+        let header = *self;
+        header.dl_src < 1 << 48 && header.dl_dst < 1 << 48
+    }
 }
 
 impl Plain for Header {

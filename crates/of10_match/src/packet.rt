@@ -1,10 +1,10 @@
 //! A packet and its record of 36 bytes.
 
-ghost use Rattle.std.specs.Prelude.{◌≡◌};
+ghost use Rattle.std.specs.Prelude.{◌≡◌, ◌↔◌, IsTrue};
 ghost use Rattle.listed.specs.Plain.{plain};
 
-use crate::fields::{u16_at, u32_at, u48_at};
 use crate::header::Header;
+use crate::numbers::{u16_at, u32_at, u48_at};
 use byteorder::{BigEndian, ByteOrder};
 use listed::Plain;
 
@@ -18,8 +18,17 @@ pub struct Packet {
 impl Packet {
     ghost use Rattle.of10_match.specs.Packet.{IsValidPacket, packet_of, record_of};
 
+    /// Whether the header is valid; a tag always is.
+    pub fn is_valid(&self) -> bool
+        ensures { IsTrue result ↔ IsValidPacket self.now }
+    {
+        let _tag = self.tag;
+        self.header.is_valid()
+    }
+
     /// The record of the packet: the header's fields in their order and the tag, big-endian, and one
     /// zero byte.
+    #[tactic(auto, unfolding(crate::specs::Packet::record_of))]
     pub fn to_record(&self) -> [u8; 36]
         requires { IsValidPacket self.now }
         ensures { result ≡ record_of self.now }
@@ -42,6 +51,7 @@ impl Packet {
     }
 
     /// The packet of a record. The last byte is not looked at.
+    #[tactic(auto, unfolding(crate::specs::Packet::packet_of))]
     pub fn from_record(bytes: &[u8; 36]) -> Packet
         ensures packet { result ≡ packet_of bytes.now }
         ensures valid { IsValidPacket result }

@@ -1,0 +1,5 @@
+pub mod ExactLaws
+pub mod FieldLaws
+pub mod HeaderLaws
+pub mod MatchLaws
+pub mod WireLaws
