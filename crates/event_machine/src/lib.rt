@@ -1,13 +1,20 @@
-// A library with one function.
+//! The machine: a scenario's setup, the world that it comes to, the events that change it, and which
+//! histories of events are legal.
 #![tactic(auto)]
 
-ghost use Rattle.std.specs.Prelude.{◌≡◌};
-ghost use Rattle.event_machine.specs.Echo.{echo_of};
+mod event;
+mod port_pools;
+mod script;
+mod setup;
+mod trace;
+mod valid;
+mod world;
 
-// The `ensures` clause is the contract: what `echo` returns is `echo_of` of its argument, a definition
-// in `specs/Echo.antt`, which a caller's clause can cite too.
-pub fn echo(x: usize) -> usize
-    ensures { result ≡ echo_of x }
-{
-    x
-}
+pub use event::Event;
+pub use script::{Input, Line, Script};
+pub use setup::{Limits, Setup};
+pub use trace::{End, Entries, Entry, Trace};
+pub use world::{StepNo, World};
+
+#[cfg(test)]
+mod tests;

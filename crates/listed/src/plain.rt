@@ -71,3 +71,11 @@ impl<T: Plain> Plain for Option<T> {
 
     ghost clones = { Prim.search plain };
 }
+
+impl<A: Plain, B: Plain> Plain for (A, B) {
+    fn same(&self, other: &Self) -> bool {
+        self.0.same(&other.0) && self.1.same(&other.1)
+    }
+
+    ghost clones = { Prim.search plain };
+}

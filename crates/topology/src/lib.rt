@@ -5,4 +5,4 @@ mod network;
 mod status;
 
 pub use network::{Flags, Hosts, Links, Owners, Places, Ports, Topology};
-pub use status::Status;
+pub use status::{Status, first_places};

@@ -1,6 +1,5 @@
 //! The part of a network that failures, recoveries and moves change.
 ghost use Rattle.std.specs.Prelude.{◌≡◌, IfOk, replicate, map, true};
-ghost use Rattle.topology.specs.Status.{start_of};
 
 use crate::network::{Flags, Places, Topology};
 use listed::Listed;
@@ -15,16 +14,20 @@ pub struct Status {
     pub place: Places,
 }
 
-/// The status that a network starts with: all is up, and each host is where the topology has it.
-pub fn start(alloc: Global, topology: &Topology) -> Result<Status, AllocError>
-    ensures { IfOk result (λ status. status ≡ start_of topology.now) }
-{
-    Ok(Status {
-        link_up: all_up(alloc, topology.links.len())?,
-        switch_up: all_up(alloc, topology.ports.len())?,
-        control_up: all_up(alloc, topology.ports.len())?,
-        place: Listed::of(first_places(alloc, topology.hosts.as_slice())?),
-    })
+impl Status {
+    ghost use Rattle.topology.specs.Status.{start_of};
+
+    /// The status that a network starts with: all is up, and each host is where the topology has it.
+    pub fn start(alloc: Global, topology: &Topology) -> Result<Status, AllocError>
+        ensures { IfOk result (λ status. status ≡ start_of topology.now) }
+    {
+        Ok(Status {
+            link_up: all_up(alloc, topology.links.len())?,
+            switch_up: all_up(alloc, topology.ports.len())?,
+            control_up: all_up(alloc, topology.ports.len())?,
+            place: Listed::of(first_places(alloc, topology.hosts.as_slice())?),
+        })
+    }
 }
 
 fn all_up(alloc: Global, count: usize) -> Result<Flags, AllocError>
@@ -33,7 +36,8 @@ fn all_up(alloc: Global, count: usize) -> Result<Flags, AllocError>
     Ok(Listed::of(vec![in alloc; true; count]?))
 }
 
-fn first_places(alloc: Global, hosts: &[(u16, u16, u64)]) -> Result<Vec<(u16, u16)>, AllocError>
+/// The places at which hosts start.
+pub fn first_places(alloc: Global, hosts: &[(u16, u16, u64)]) -> Result<Vec<(u16, u16)>, AllocError>
     ensures { IfOk result (λ places. places.items ≡ map (λ host. (host.0, host.1)) hosts.now) }
 {
     hosts.iter().map(|host| (host.0, host.1)).collect(alloc)

@@ -1,0 +1,4 @@
+pub mod Ports
+pub mod Waiting
+pub mod Fitting
+pub mod Wired
