@@ -9,16 +9,13 @@ use crate::{Failed, Source};
 use std::alloc::{AllocError, Global};
 use thiserror::Error;
 
-/// Why a source was not read to its end.
+/// Why a source was not read to its end: it failed, it gave more bytes than the limit, or memory was wanting.
 #[derive(Clone, Copy, Debug, PartialEq, Eq, Error)]
 pub enum ReadFail {
-    /// The source failed.
     #[error("reading failed")]
     Fault,
-    /// The source gave more bytes than the limit.
     #[error("the input is too long")]
     TooLong,
-    /// Memory was wanting.
     #[error("out of memory")]
     OutOfMemory,
 }

@@ -7,10 +7,9 @@ ghost use Rattle.sts_io.specs.Failures.{gone_of};
 use crate::Sink;
 use thiserror::Error;
 
-/// Why bytes were not written whole.
+/// Why bytes were not written whole: the sink failed after it had taken the first `gone` of them.
 #[derive(Clone, Copy, Debug, PartialEq, Eq, Error)]
 pub enum WriteFail {
-    /// The sink failed after it had taken the first `gone` bytes.
     #[error("writing failed after {gone} bytes")]
     Fault { gone: u64 },
 }

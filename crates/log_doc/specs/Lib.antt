@@ -1,0 +1,4 @@
+pub mod Json
+pub mod Log
+pub mod Scenario
+pub mod Misread

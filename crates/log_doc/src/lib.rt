@@ -1,0 +1,12 @@
+//! Log documents: what a run's log in JSON stands for.
+#![tactic(auto)]
+
+mod entry;
+mod json;
+mod log;
+mod scenario;
+
+pub use log::{DocFail, Log, Path, Scenario, read_log};
+
+#[cfg(test)]
+mod tests;
