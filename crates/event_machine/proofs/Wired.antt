@@ -11,11 +11,12 @@ both false true = (λ h. absurd (cc), λ h. h.0)
 both false false = (λ h. absurd (cc), λ h. h.0)
 
 pub wired : (t : Topology) (ends places attached : List (ℕ × ℕ)) (addresses : List ℕ) (a b : Bool)
-  → ends ≡ ends_of t.links → places ≡ places_of t.hosts → attached ≡ ends ++ places → addresses ≡ map (λ host. host.2) t.hosts
-  → (IsTrue a ↔ (All (IsPort t.ports) ends × All (IsPort t.ports) places))
-  → (IsTrue b ↔ (AllPairs (λ one other. one ≢ other) attached × AllPairs (λ one other. one ≢ other) addresses))
-  → IsTrue (a && b) ↔ IsWired t
+    → ends ≡ ends_of t.links → places ≡ places_of t.hosts → attached ≡ ends ++ places → addresses ≡ map (λ host. host.2) t.hosts
+    → (IsTrue a ↔ (All (IsPort t.ports) ends × All (IsPort t.ports) places))
+    → (IsTrue b ↔ (AllPairs (λ one other. one ≢ other) attached × AllPairs (λ one other. one ≢ other) addresses))
+    → IsTrue (a && b) ↔ IsWired t
 wired t ends places attached addresses a b e p j m ha hb = (
-    λ ok. let ab = (both a b).0 ok in let fit = ha.0 ab.0 in let differ = hb.0 ab.1 in
-        record { ends = rw (← e) fit.0; places = rw (← p) fit.1; apart = rw (← e, ← p, ← j) differ.0; addresses = rw (← m) differ.1 },
-    λ w. (both a b).1 (ha.1 (rw e w.ends, rw p w.places), hb.1 (rw (j, e, p) w.apart, rw m w.addresses)))
+  λ ok. let ab = (both a b).0 ok in let fit = ha.0 ab.0 in let differ = hb.0 ab.1 in
+      record { ends = rw (← e) fit.0; places = rw (← p) fit.1; apart = rw (← e, ← p, ← j) differ.0; addresses = rw (← m) differ.1 },
+  λ w. (both a b).1 (ha.1 (rw e w.ends, rw p w.places), hb.1 (rw (j, e, p) w.apart, rw m w.addresses)),
+)

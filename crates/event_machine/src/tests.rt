@@ -32,8 +32,7 @@ const SENT: Input = Input::Inject {
 };
 
 // One switch of two ports, and a host at each of them.
-fn network(alloc: Global) -> Result<Topology, AllocError>
-{
+fn network(alloc: Global) -> Result<Topology, AllocError> {
     Ok(Topology {
         ports: Listed::of(vec![in alloc; 2u16]?),
         owner: Listed::of(vec![in alloc; None]?),
@@ -43,8 +42,7 @@ fn network(alloc: Global) -> Result<Topology, AllocError>
 }
 
 // A script that sends the packet once for each mark.
-fn sent_for_each(alloc: Global, marks: &[bool]) -> Result<Script, AllocError>
-{
+fn sent_for_each(alloc: Global, marks: &[bool]) -> Result<Script, AllocError> {
     let mut script = Listed::new(alloc);
     for mark in marks {
         script.push(Line {
@@ -56,8 +54,7 @@ fn sent_for_each(alloc: Global, marks: &[bool]) -> Result<Script, AllocError>
 }
 
 // The network with a script that sends the packet once for each mark.
-fn one_switch(alloc: Global, max_events: u32, marks: &[bool]) -> Result<Setup, AllocError>
-{
+fn one_switch(alloc: Global, max_events: u32, marks: &[bool]) -> Result<Setup, AllocError> {
     Ok(Setup {
         topology: network(alloc)?,
         script: sent_for_each(alloc, marks)?,

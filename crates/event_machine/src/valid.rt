@@ -13,10 +13,12 @@ impl Setup {
     pub fn is_valid(&self, alloc: Global) -> Result<bool, AllocError>
         ensures { IfOk result (λ valid. IsTrue valid ↔ IsValidSetup self.now) }
     {
-        Ok(self.script.len() <= 256
-            && is_limits(&self.limits)
-            && is_script(&self.topology, self.script.as_slice())
-            && is_network(alloc, &self.topology)?)
+        Ok(
+            self.script.len() <= 256
+                && is_limits(&self.limits)
+                && is_script(&self.topology, self.script.as_slice())
+                && is_network(alloc, &self.topology)?,
+        )
     }
 }
 
@@ -39,17 +41,20 @@ fn is_input(topology: &Topology, input: &Input) -> bool
     ensures { IsTrue result ↔ IsInput topology.now input.now }
 {
     match input {
-        Input::Inject { host, packet } => usize::from(*host) < topology.hosts.len() && packet.is_valid(),
+        Input::Inject { host, packet } => usize::from(*host) < topology.hosts.len()
+            && packet.is_valid(),
     }
 }
 
 fn is_network(alloc: Global, topology: &Topology) -> Result<bool, AllocError>
     ensures { IfOk result (λ valid. IsTrue valid ↔ IsNetwork topology.now) }
 {
-    Ok(has_switches(topology)
-        && topology.links.len() <= 256
-        && topology.hosts.len() <= 128
-        && is_wired(alloc, topology)?)
+    Ok(
+        has_switches(topology)
+            && topology.links.len() <= 256
+            && topology.hosts.len() <= 128
+            && is_wired(alloc, topology)?,
+    )
 }
 
 fn has_switches(topology: &Topology) -> bool
@@ -80,12 +85,20 @@ fn is_wired(alloc: Global, topology: &Topology) -> Result<bool, AllocError>
     let places = first_places(alloc, topology.hosts.as_slice())?;
     let attached = joined(alloc, ends.as_slice(), places.as_slice())?;
     let addresses = addresses(alloc, topology.hosts.as_slice())?;
-    let fit = are_both_ports(topology.ports.as_slice(), ends.as_slice(), places.as_slice());
+    let fit = are_both_ports(
+        topology.ports.as_slice(),
+        ends.as_slice(),
+        places.as_slice(),
+    );
     let differ = are_both_different(attached.as_slice(), addresses.as_slice());
     Ok(fit & differ)
 }
 
-fn joined(alloc: Global, ends: &[(u16, u16)], places: &[(u16, u16)]) -> Result<Vec<(u16, u16)>, AllocError>
+fn joined(
+    alloc: Global,
+    ends: &[(u16, u16)],
+    places: &[(u16, u16)],
+) -> Result<Vec<(u16, u16)>, AllocError>
     ensures { IfOk result (λ all. all.items ≡ ends.now ++ places.now) }
 {
     let mut all = ends.to_vec(alloc)?;

@@ -37,18 +37,18 @@ packet_of_hex text = packet_in (decode_sized text 36)
 abbrev pub input_entry : Data → Option Entry
 input_entry value = if is_list_of 4 value then
     option_and_then (λ worker. option_and_then (λ number. option_map (λ position.
-      record { worker = worker; number = number; event = In position; item = None })
+    record { worker = worker; number = number; event = In position; item = None })
     (number_at value 3 0 (2 ^ 32 - 1))) (number_at value 1 0 (2 ^ 64 - 1))) (number_at value 0 0 (2 ^ 32 - 1))
-  else None
+    else None
 
 -- a packet taken: worker, number, the word, switch, port, the item's number and its record
 abbrev pub packet_entry : Data → Option Entry
 packet_entry value = if is_list_of 7 value then
     option_and_then (λ worker. option_and_then (λ number. option_and_then (λ s. option_and_then (λ p. option_and_then (λ n. option_map (λ packet.
-      record { worker = worker; number = number; event = Pkt s p n; item = Some (item.Packet packet) })
+    record { worker = worker; number = number; event = Pkt s p n; item = Some (item.Packet packet) })
     (option_and_then packet_of_hex (option_and_then as_str (at 6 value)))) (number_at value 5 0 (2 ^ 64 - 1)))
     (number_at value 4 0 (2 ^ 16 - 1))) (number_at value 3 0 (2 ^ 16 - 1))) (number_at value 1 0 (2 ^ 64 - 1))) (number_at value 0 0 (2 ^ 32 - 1))
-  else None
+    else None
 
 -- an entry, by its word
 abbrev pub entry_of : Data → Option Entry
@@ -65,11 +65,11 @@ end_of value = if is_word (codes "quiet") value then Some Quiet else if is_word 
 abbrev pub log_of : Data → Option Log
 log_of value = if is_object_of 4 value then
     option_and_then (λ version. option_and_then (λ setup. option_and_then (λ entries. option_map (λ end.
-      record { scenario = record { setup = setup }; trace = record { entries = entries; end = end } })
+    record { scenario = record { setup = setup }; trace = record { entries = entries; end = end } })
     (option_and_then end_of (get (codes "end") value)))
     (option_and_then (list_read entry_of 16384) (get (codes "entries") value)))
     (option_and_then setup_of (get (codes "scenario") value))) (number_of value (codes "sts") 1 1)
-  else None
+    else None
 
 -- The scenario can run, and each entry names a worker that it has; worker 0 stands for the one that completes the run.
 pub record IsValidLog (log : Log) : Type 0 where

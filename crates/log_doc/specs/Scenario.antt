@@ -25,13 +25,23 @@ header_of value = if is_list_of 11 value then
     option_and_then (λ dl_src. option_and_then (λ dl_dst. option_and_then (λ dl_vlan. option_and_then (λ dl_vlan_pcp.
     option_and_then (λ dl_type. option_and_then (λ nw_tos. option_and_then (λ nw_proto. option_and_then (λ nw_src.
     option_and_then (λ nw_dst. option_and_then (λ tp_src. option_map (λ tp_dst. record {
-      dl_src = dl_src; dl_dst = dl_dst; dl_vlan = dl_vlan; dl_vlan_pcp = dl_vlan_pcp; dl_type = dl_type; nw_tos = nw_tos;
-      nw_proto = nw_proto; nw_src = nw_src; nw_dst = nw_dst; tp_src = tp_src; tp_dst = tp_dst })
+      dl_src = dl_src;
+      dl_dst = dl_dst;
+      dl_vlan = dl_vlan;
+      dl_vlan_pcp = dl_vlan_pcp;
+      dl_type = dl_type;
+      nw_tos = nw_tos;
+      nw_proto = nw_proto;
+      nw_src = nw_src;
+      nw_dst = nw_dst;
+      tp_src = tp_src;
+      tp_dst = tp_dst;
+    })
     (number_at value 10 0 (2 ^ 16 - 1))) (number_at value 9 0 (2 ^ 16 - 1))) (number_at value 8 0 (2 ^ 32 - 1)))
     (number_at value 7 0 (2 ^ 32 - 1))) (number_at value 6 0 (2 ^ 8 - 1))) (number_at value 5 0 (2 ^ 8 - 1)))
     (number_at value 4 0 (2 ^ 16 - 1))) (number_at value 3 0 (2 ^ 8 - 1))) (number_at value 2 0 (2 ^ 16 - 1)))
     (number_at value 1 0 (2 ^ 48 - 1))) (number_at value 0 0 (2 ^ 48 - 1))
-  else None
+    else None
 
 -- a switch: its number of ports, no controller, and no presets
 abbrev pub switch_of : Data → Option ℕ
@@ -42,28 +52,28 @@ abbrev pub link_of : Data → Option (ℕ × ℕ × ℕ × ℕ)
 link_of value = if is_list_of 4 value then
     option_and_then (λ s. option_and_then (λ p. option_and_then (λ t. option_map (λ q. (s, p, t, q))
     (number_at value 3 0 (2 ^ 16 - 1))) (number_at value 2 0 (2 ^ 16 - 1))) (number_at value 1 0 (2 ^ 16 - 1))) (number_at value 0 0 (2 ^ 16 - 1))
-  else None
+    else None
 
 -- a host: switch and port, and its MAC address, which is not 0
 abbrev pub host_of : Data → Option (ℕ × ℕ × ℕ)
 host_of value = if is_list_of 3 value then
     option_and_then (λ s. option_and_then (λ p. option_map (λ mac. (s, p, mac))
     (number_at value 2 1 (2 ^ 48 - 1))) (number_at value 1 0 (2 ^ 16 - 1))) (number_at value 0 0 (2 ^ 16 - 1))
-  else None
+    else None
 
 -- an unmarked line that injects a packet: 0, the word, the host, the header and the tag
 abbrev pub line_of : Data → Option Line
 line_of value = if is_list_of 5 value && is_word_at value 1 (codes "inject") then
     option_and_then (λ mark. option_and_then (λ host. option_and_then (λ header. option_map (λ tag.
-      record { after_quiet = false; input = Inject host (record { header = header; tag = tag }) })
+    record { after_quiet = false; input = Inject host (record { header = header; tag = tag }) })
     (number_at value 4 0 (2 ^ 32 - 1))) (option_and_then header_of (at 3 value))) (number_at value 2 0 (2 ^ 16 - 1))) (number_at value 0 0 0)
-  else None
+    else None
 
 -- the network: its switches have no controllers
 abbrev pub topology_of : Data → Option Topology
 topology_of value =
     option_and_then (λ hosts. option_and_then (λ links. option_map (λ ports.
-      record { ports = ports; owner = replicate (length ports) None; links = links; hosts = hosts })
+    record { ports = ports; owner = replicate (length ports) None; links = links; hosts = hosts })
     (option_and_then (list_read switch_of 64) (get (codes "switches") value)))
     (option_and_then (list_read link_of 256) (get (codes "links") value)))
     (option_and_then (list_read host_of 128) (get (codes "hosts") value))
@@ -72,7 +82,7 @@ topology_of value =
 abbrev pub limits_of : Data → Option Limits
 limits_of value =
     option_and_then (λ budget. option_and_then (λ max_events. option_and_then (λ patience. option_map (λ workers.
-      record { max_events = max_events; budget = budget; workers = workers; patience = patience })
+    record { max_events = max_events; budget = budget; workers = workers; patience = patience })
     (number_of value (codes "workers") 1 8)) (number_of value (codes "patience") 0 1000000))
     (number_of value (codes "max_events") 1 16384)) (number_of value (codes "budget") 0 64)
 
@@ -80,8 +90,8 @@ limits_of value =
 abbrev pub setup_of : Data → Option Setup
 setup_of value =
     if is_object_of 11 value && is_empty_list (get (codes "controllers") value) && is_empty_list (get (codes "invariants") value) then
-      option_and_then (λ version. option_and_then (λ limits. option_and_then (λ topology. option_map (λ script.
-        record { topology = topology; script = script; limits = limits })
-      (option_and_then (list_read line_of 256) (get (codes "script") value)))
-      (topology_of value)) (limits_of value)) (number_of value (codes "sts") 1 1)
+    option_and_then (λ version. option_and_then (λ limits. option_and_then (λ topology. option_map (λ script.
+    record { topology = topology; script = script; limits = limits })
+    (option_and_then (list_read line_of 256) (get (codes "script") value)))
+    (topology_of value)) (limits_of value)) (number_of value (codes "sts") 1 1)
     else None

@@ -127,11 +127,7 @@ pub(crate) trait Form {
 }
 
 /// A list of at most so many elements, each of the form.
-fn read_list<F: Form>(
-    alloc: Global,
-    most: usize,
-    value: &Value,
-) -> Result<Listed<F::Read>, Misread>
+fn read_list<F: Form>(alloc: Global, most: usize, value: &Value) -> Result<Listed<F::Read>, Misread>
     ensures { Gives result (list_read F.form most (view value.now)) }
 {
     let Some(items) = value.as_array() else {

@@ -2,7 +2,6 @@
 ghost use Rattle.std.specs.Prelude.{◌≡◌, ◌≤◌, ◌↔◌, All, IsTrue, IfOk, IfErr};
 ghost use Rattle.serde_json.specs.View.{view};
 ghost use Rattle.log_doc.specs.Misread.{Gives};
-
 ghost use Rattle.log_doc.specs.Log.{log_of, IsValidLog, GivesLog, RefusesBy, IsLogText, IsRefused};
 
 use crate::entry::{EntryForm, end_of};

@@ -7,7 +7,8 @@ ghost use Rattle.log_doc.specs.Misread.{Gives};
 ghost use Rattle.log_doc.specs.Scenario.{switch_of, link_of, host_of, header_of, line_of, topology_of, limits_of, setup_of, is_empty_list, is_null};
 
 use crate::json::{
-    Form, Misread, is_list_of, is_object_of, is_word_at, member_list, number_at, u8_at, u16_at, u32_at, u32_of,
+    Form, Misread, is_list_of, is_object_of, is_word_at, member_list, number_at, u8_at, u16_at,
+    u32_at, u32_of,
 };
 use event_machine::{Input, Limits, Line, Setup};
 use listed::Listed;
@@ -25,7 +26,10 @@ impl Form for SwitchForm {
     ghost form = { switch_of };
 
     fn read(value: &Value) -> Option<u16> {
-        if !is_list_of(3, value) || !is_null(value.get(1usize)) || !is_empty_list(value.get(2usize)) {
+        if !is_list_of(3, value)
+            || !is_null(value.get(1usize))
+            || !is_empty_list(value.get(2usize))
+        {
             return None;
         }
         Some(number_at(value, 0, 1, 48)? as u16)
@@ -86,7 +90,10 @@ impl Form for LineForm {
         let tag = u32_at(value, 4)?;
         Some(Line {
             after_quiet: false,
-            input: Input::Inject { host, packet: Packet { header, tag } },
+            input: Input::Inject {
+                host,
+                packet: Packet { header, tag },
+            },
         })
     }
 }

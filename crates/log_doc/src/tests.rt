@@ -3,7 +3,8 @@ use super::{DocFail, read_log};
 use std::test::Fail;
 
 // One packet that is sent and lost, on one switch with two hosts.
-const LOG: &str = "{\"end\":\"quiet\",\"entries\":[[0,0,\"in\",0],[0,1,\"pkt\",0,1,0,\"000000000001000000000002ffff00080000060000000a0000001403e800500000000700\"]],\"scenario\":{\"budget\":0,\"controllers\":[],\"hosts\":[[0,1,1],[0,2,2]],\"invariants\":[],\"links\":[],\"max_events\":100,\"patience\":0,\"script\":[[0,\"inject\",0,[1,2,65535,0,2048,0,6,10,20,1000,80],7]],\"sts\":1,\"switches\":[[2,null,[]]],\"workers\":1},\"sts\":1}";
+const LOG: &str =
+    "{\"end\":\"quiet\",\"entries\":[[0,0,\"in\",0],[0,1,\"pkt\",0,1,0,\"000000000001000000000002ffff00080000060000000a0000001403e800500000000700\"]],\"scenario\":{\"budget\":0,\"controllers\":[],\"hosts\":[[0,1,1],[0,2,2]],\"invariants\":[],\"links\":[],\"max_events\":100,\"patience\":0,\"script\":[[0,\"inject\",0,[1,2,65535,0,2048,0,6,10,20,1000,80],7]],\"sts\":1,\"switches\":[[2,null,[]]],\"workers\":1},\"sts\":1}";
 
 // The rule by which the bytes are refused, or 0 where they are read.
 fn rule(alloc: std::alloc::Global, bytes: &[u8]) -> Result<u8, Fail> {
@@ -21,7 +22,11 @@ fn one_change_at_a_time(rt: HostRuntime) -> Result<(), Fail> {
         ("0a0000001403e8", "0A0000001403E8", 0),
         ("0700\"", "07ff\"", 0),
         ("{\"end\":\"quiet\"", " {\t\"end\" : \"full\"", 0),
-        ("[0,0,\"in\",0]", "[1,18446744073709551615,\"in\",4294967295]", 0),
+        (
+            "[0,0,\"in\",0]",
+            "[1,18446744073709551615,\"in\",4294967295]",
+            0,
+        ),
         ("\"pkt\"", "\"\\u0070kt\"", 0),
         ("[],\"max_events\"", "[[0,1,0,2]],\"max_events\"", 24),
         ("[2,null,[]]", "[5,null,[]],[48,null,[]]", 0),
