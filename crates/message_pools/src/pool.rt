@@ -23,8 +23,9 @@ impl Model for Pool {
     ghost Value = { Reserved };
 
     ghost view = { λ p. record {
-        queue = record { first = p.first; items = p.items.items };
-        spare = deque_capacity p.items - deque_len p.items } };
+      queue = record { first = p.first; items = p.items.items };
+      spare = deque_capacity p.items - deque_len p.items;
+    } };
 
     ghost invariant = { λ p. p.first + deque_len p.items ≤ 2 ^ 63 };
 }
@@ -102,5 +103,48 @@ impl Pool {
         ensures { IsTrue result ↔ (self.now.queue.items ≡ []) }
     {
         self.items.is_empty()
+    }
+}
+
+#[cfg(test)]
+mod tests {
+    use super::*;
+    use listed::Plain;
+    use of10_match::{Header, Packet};
+    use std::test::Fail;
+
+    fn packet(tag: u32) -> Item {
+        let header = Header {
+            dl_src: 1,
+            dl_dst: 2,
+            dl_vlan: 65535,
+            dl_vlan_pcp: 0,
+            dl_type: 2048,
+            nw_tos: 0,
+            nw_proto: 6,
+            nw_src: 10,
+            nw_dst: 20,
+            tp_src: 1000,
+            tp_dst: 80,
+        };
+        Item::Packet(Packet { header, tag })
+    }
+
+    #[test]
+    fn numbers_go_on_after_a_flush(rt: HostRuntime) -> Result<(), Fail> {
+        let mut pool = Pool::new(rt.alloc());
+        pool.reserve(3)?;
+        assert_eq!(rt; pool.put(packet(7)), 0);
+        assert_eq!(rt; pool.put(packet(8)), 1);
+        let (number, item) = pool.head().ok_or("a head")?;
+        assert!(rt; number == 0 && item.same(&packet(7)));
+        let (number, item) = pool.take().ok_or("an item")?;
+        assert!(rt; number == 0 && item.same(&packet(7)));
+        assert_eq!(rt; pool.len(), 1);
+        pool.flush();
+        assert!(rt; pool.is_empty());
+        assert!(rt; pool.head().is_none());
+        assert_eq!(rt; pool.put(packet(9)), 2);
+        Ok(())
     }
 }

@@ -1,5 +1,5 @@
 -- What a network starts with.
-use Rattle.std.specs.Prelude.{ℕ, List, length, map, replicate, true}
+use Rattle.std.specs.Prelude.{length, map, replicate, true}
 use Rattle.topology.specs.declared.network.Topology.{Topology}
 use Rattle.topology.specs.declared.status.Status.{Status}
 

@@ -42,3 +42,25 @@ pub fn first_places(alloc: Global, hosts: &[(u16, u16, u64)]) -> Result<Vec<(u16
 {
     hosts.iter().map(|host| (host.0, host.1)).collect(alloc)
 }
+
+#[cfg(test)]
+mod tests {
+    use super::*;
+    use std::test::Fail;
+
+    #[test]
+    fn a_network_starts_up(rt: HostRuntime) -> Result<(), Fail> {
+        let topology = Topology {
+            ports: Listed::of(vec![in rt.alloc(); 2u16, 3]?),
+            owner: Listed::of(vec![in rt.alloc(); None, None]?),
+            links: Listed::of(vec![in rt.alloc(); (0u16, 2u16, 1u16, 1u16)]?),
+            hosts: Listed::of(vec![in rt.alloc(); (1u16, 3u16, 9u64), (0, 1, 4)]?),
+        };
+        let status = Status::start(rt.alloc(), &topology)?;
+        assert_eq!(rt; status.link_up.as_slice(), [true].as_slice());
+        assert_eq!(rt; status.switch_up.as_slice(), [true, true].as_slice());
+        assert_eq!(rt; status.control_up.as_slice(), [true, true].as_slice());
+        assert_eq!(rt; status.place.as_slice(), [(1, 3), (0, 1)].as_slice());
+        Ok(())
+    }
+}

@@ -1,4 +1,4 @@
-use Rattle.std.proofs.Common.{◌≡◌, ◌≢◌, ℕ, ◌<◌, get_or, length}
+use Rattle.std.proofs.Common.{◌≢◌, ℕ, ◌<◌, get_or, length}
 use Rattle.listed.proofs.distinct.all_different.Given as goal
 
 abbrev pub invariant-loop-at : goal.invariant-loop-at

@@ -1,4 +1,4 @@
-use Rattle.std.proofs.Common.{◌≡◌, ◌≢◌, ℕ, ◌<◌, get_or}
+use Rattle.std.proofs.Common.{◌≢◌, ℕ, ◌<◌, get_or}
 use Rattle.listed.proofs.distinct.differs_from_later.Given as goal
 
 abbrev pub invariant-loop-later : goal.invariant-loop-later
