@@ -1,4 +1,5 @@
+pub mod Fitting
+pub mod Histories
 pub mod Ports
 pub mod Waiting
-pub mod Fitting
 pub mod Wired

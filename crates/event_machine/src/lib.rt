@@ -3,6 +3,8 @@
 #![tactic(auto)]
 
 mod event;
+mod legal;
+mod numbers;
 mod port_pools;
 mod script;
 mod setup;
@@ -11,6 +13,7 @@ mod valid;
 mod world;
 
 pub use event::Event;
+pub use legal::{LogNo, check_legal};
 pub use script::{Input, Line, Script};
 pub use setup::{Limits, Setup};
 pub use trace::{End, Entries, Entry, Trace};

@@ -1,7 +1,7 @@
 //! The world that a run comes to.
 ghost use Rattle.std.specs.Prelude.{◌≡◌, ◌+◌, ◌<◌, ◌^◌, ◌↔◌, IsTrue, IsSome, IfSome, IfOk, IfErr, OnOk, OnErr, Some, option_map};
 ghost use Rattle.message_pools.specs.Queue.{next_number};
-ghost use Rattle.event_machine.specs.Pools.{packets_at};
+ghost use Rattle.event_machine.specs.Pools.{packets_at, IsQuiet};
 ghost use Rattle.event_machine.specs.Setup.{IsValidSetup};
 ghost use Rattle.event_machine.specs.World.{start, next, happened, arrived, is_up, head_for, head_number, IsEnabled, IsInputEvent, IsRefusal, Fits, first_event};
 
@@ -89,6 +89,28 @@ impl World {
         self.events += 1;
         self.inputs += event.input_count();
         Ok(())
+    }
+
+    /// The first internal event that is enabled, in the order of pools: by switch, then by port.
+    pub fn enabled_first(&self) -> Option<Event>
+        ensures { result ≡ first_event self.now }
+    {
+        let (s, p, item) = self.packets.first()?;
+        Some(Event::Pkt { s, p, item })
+    }
+
+    /// Whether nothing waits.
+    pub fn quiet(&self) -> bool
+        ensures { IsTrue result ↔ IsQuiet self.now.packets }
+    {
+        self.packets.is_quiet()
+    }
+
+    /// How many inputs happened since the start.
+    pub(crate) fn inputs(&self) -> u32
+        ensures { result ≡ self.now.inputs }
+    {
+        self.inputs
     }
 
     /// The first item of the pool that an event takes from, with its number; an input takes from none.

@@ -1,5 +1,5 @@
 -- The record of a packet: 36 bytes, big-endian. The layout is this project's own; the fields and
--- their order are those of OpenFlow 1.0.0 section 3.4.
+-- their order are those of OpenFlow 1.0.0 section 5.2.3 (ofp_match).
 use Rattle.std.specs.Prelude.{ℕ, ◌<◌, ◌^◌, List, [], ◌∷◌, ◌++◌, slice_index}
 use Rattle.byteorder.specs.Endian.{big_bytes, big_from}
 use Rattle.of10_match.specs.declared.packet.Packet.{Packet}

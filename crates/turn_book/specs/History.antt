@@ -65,7 +65,8 @@ pub record Taken {B E S : Type 0} (log : List E) (s : State (Option B) (View E S
   pub met : view.seen ≡ log
   pub alone : (id : ℕ) (v : View E S) → get_elem? s.views id ≡ some v → v.holds ≡ true → id ≡ holder
 
--- the shared history: it holds at every moment
+-- The shared history: it holds at every moment, of the views that are live. That the history only grows follows from
+-- the seen lists, and what a seat counts as looks and turns is what the kinds of step say.
 pub record Kept {B E S : Type 0} (history : B → List E) (subject_of : B → S) (mark : E → ℕ) (start : ℕ) (subject : S) (s : State (Option B) (View E S)) : Type 0 where
   pub log : List E
   pub seated : Seated mark start subject log s.views

@@ -71,11 +71,11 @@ module _ {E S : Type 0} where
   abbrev pub LastMarkIsFree : (E → ℕ) → View E S → Type 0
   LastMarkIsFree mark v = (place : ℕ) (e : E) → 0 < times place (concat v.own) → slice_get v.seen place ≡ Some e → times (mark e) (last_alone v.marks) ≡ 0
 
-  -- the two are one, which read the word as it was then
+  -- the two are one, and it learnt some number of the word
   abbrev pub IsJoined : View E S → View E S → View E S → Type 0
   IsJoined v w joined = (now : ℕ) × (joined ≡ noted now (both v w))
 
-  -- a seat that a split made, which read the word as it was then
+  -- a seat that a split made, which learnt some number of the word
   abbrev pub IsNoted : View E S → View E S → Type 0
   IsNoted v w = (now : ℕ) × (w ≡ noted now v)
 

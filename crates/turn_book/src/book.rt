@@ -3,7 +3,7 @@ ghost use Rattle.std.specs.Prelude.{◌≡◌, ℕ, List, length};
 
 /// A value that stands for a list of entries, its history, and is about one subject, which no turn changes.
 ///
-/// Each entry carries a mark, a number below 64 that says which seat entered it.
+/// Each entry carries a mark, a number. Past the opening it is a mark of the seat that entered it, and so below 64.
 pub trait Book: Send + Drop {
     /// What a turn adds one of. It is plain data.
     type Entry;

@@ -1,0 +1,10 @@
+use Rattle.std.proofs.Common.{◌≡◌, ◌++◌, drop, string_bytes}
+use Rattle.std.specs.Prelude.{flat_map}
+use Rattle.std.specs.List.{enumerate_from}
+use Rattle.sts_cli.specs.Lines.{step_line, step_lines}
+use Rattle.sts_cli.proofs.lines.push_steps.Given as goal
+
+abbrev pub invariant-loop-at : goal.invariant-loop-at
+invariant-loop-at l =
+    string_bytes l.text ++ flat_map (λ step. step_line step.0 step.1.event) (enumerate_from l.at (drop l.at l.entries))
+    ≡ string_bytes l.fn.text ++ step_lines l.entries

@@ -1,0 +1,47 @@
+-- The lines that the program writes. Each ends with a line feed, and numbers are decimal.
+use Rattle.std.specs.Prelude.{ℕ, List, [], ◌∷◌, ◌++◌, length, flat_map, codes}
+use Rattle.std.specs.Fmt.{decimal}
+use Rattle.std.specs.List.{enumerate_from}
+use Rattle.event_machine.specs.declared.event.Event.{Event}
+use Rattle.event_machine.specs.declared.event.Event.TheVariants.{In, Pkt}
+use Rattle.event_machine.specs.declared.legal.LogNo.{LogNo}
+use Rattle.event_machine.specs.declared.legal.LogNo.TheVariants.{NotLegal, WorkerOrder, EndWrong, OutOfMemory}
+use Rattle.event_machine.specs.declared.trace.Entry.{Entry}
+use Rattle.event_machine.specs.declared.trace.Trace.{Trace}
+
+-- the end of a line
+abbrev pub line_feed : List ℕ
+line_feed = 10 ∷ []
+
+-- Step number j of a replay that takes every entry: an input by its position, and any other event as the entry expected,
+-- which is entry number j, with the event's pool and the item's number.
+abbrev pub step_line : ℕ → Event → List ℕ
+step_line j (In position) = decimal j ++ (codes " input " ++ (decimal position ++ line_feed))
+step_line j (Pkt s p number) = decimal j ++ (codes " expected " ++ (decimal j ++ (codes " pkt " ++ (decimal s
+    ++ (codes " " ++ (decimal p ++ (codes " " ++ (decimal number ++ line_feed))))))))
+
+-- how many steps a replay has
+abbrev pub head_line : ℕ → List ℕ
+head_line count = codes "replay " ++ (decimal count ++ (codes " steps" ++ line_feed))
+
+-- the lines of the steps, in order
+abbrev pub step_lines : List Entry → List ℕ
+step_lines entries = flat_map (λ step. step_line step.0 step.1.event) (enumerate_from 0 entries)
+
+-- The replay that keeps all inputs of a legal run takes its events, each as it stands in the log: none is extra, none is
+-- absent. Where there are no invariants the end holds.
+abbrev pub replay_text : Trace → List ℕ
+replay_text trace = head_line (length trace.entries) ++ (step_lines trace.entries
+    ++ (codes "absent 0" ++ (line_feed ++ (codes "end holds" ++ line_feed))))
+
+-- a document that is refused: the rule's number, and where it is broken
+abbrev pub refused_line : ℕ → List ℕ → List ℕ
+refused_line number path = codes "refused " ++ (decimal number ++ (codes " at " ++ (path ++ line_feed)))
+
+-- a log that is no legal run: what is wrong, and at which entry; want of memory writes nothing
+abbrev pub wrong_line : LogNo → List ℕ
+wrong_line (NotLegal at) = codes "not legal at " ++ (decimal at ++ line_feed)
+wrong_line (WorkerOrder at want has) = codes "worker order at " ++ (decimal at ++ (codes " want " ++ (decimal want
+    ++ (codes " has " ++ (decimal has ++ line_feed)))))
+wrong_line EndWrong = codes "end wrong" ++ line_feed
+wrong_line OutOfMemory = []

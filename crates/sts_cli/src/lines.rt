@@ -1,0 +1,62 @@
+//! The lines that the program writes.
+ghost use Rattle.std.specs.Prelude.{◌≡◌, ◌≢◌, ◌++◌, IfOk, OnOk, string_bytes};
+ghost use Rattle.event_machine.specs.declared.legal.LogNo.TheVariants.{OutOfMemory};
+ghost use Rattle.sts_cli.specs.Lines.{step_line, step_lines, head_line, replay_text, refused_line, wrong_line};
+
+use event_machine::{Entry, Event, LogNo, Trace};
+use std::alloc::{AllocError, Global};
+
+/// The replay of a legal run that keeps all inputs.
+pub(crate) fn replay_text(alloc: Global, trace: &Trace) -> Result<String, AllocError>
+    ensures { IfOk result (λ text. string_bytes text ≡ replay_text trace.now) }
+{
+    let mut text = String::new(alloc);
+    let steps = trace.entries.len();
+    writeln!(text, "replay {steps} steps")?;
+    push_steps(&mut text, trace.entries.as_slice())?;
+    writeln!(text, "absent 0")?;
+    writeln!(text, "end holds")?;
+    Ok(text)
+}
+
+fn push_steps(text: &mut String, entries: &[Entry]) -> Result<(), AllocError>
+    ensures { OnOk result (string_bytes text.new ≡ string_bytes text.old ++ step_lines entries.now) }
+{
+    for (at, entry) in entries.iter().enumerate() {
+        push_step(text, at, &entry.event)?;
+    }
+    Ok(())
+}
+
+fn push_step(text: &mut String, at: usize, event: &Event) -> Result<(), AllocError>
+    ensures { OnOk result (string_bytes text.new ≡ string_bytes text.old ++ step_line at event.now) }
+{
+    match *event {
+        Event::In(position) => writeln!(text, "{at} input {position}"),
+        Event::Pkt { s, p, item } => writeln!(text, "{at} expected {at} pkt {s} {p} {item}"),
+    }
+}
+
+/// What is wrong with a log that is no legal run.
+pub(crate) fn wrong_line(alloc: Global, why: LogNo) -> Result<String, AllocError>
+    ensures { IfOk result (λ text. string_bytes text ≡ wrong_line why) }
+{
+    match why {
+        LogNo::NotLegal { at } => format!(in alloc; "not legal at {at}\n"),
+        LogNo::WorkerOrder { at, want, has } => {
+            format!(in alloc; "worker order at {at} want {want} has {has}\n")
+        }
+        LogNo::EndWrong => String::from_str(alloc, "end wrong\n"),
+        LogNo::OutOfMemory => Ok(String::new(alloc)),
+    }
+}
+
+/// Which rule a document breaks, and where. The path is written as it is.
+pub(crate) fn refused_line(alloc: Global, number: u8, path: &[u8]) -> Result<Vec<u8>, AllocError>
+    ensures { IfOk result (λ line. line.items ≡ refused_line number path.now) }
+{
+    let mut line = format!(in alloc; "refused {number} at ")?.into_bytes();
+    line.extend_from_slice(path)?;
+    line.push(b'\n')?;
+    Ok(line)
+}
