@@ -43,15 +43,22 @@ def documents():
     yield "small numbers", "[" + ",".join(["1"] * (MOST // 2 - 1)) + "]"
 
 
-def measured(command, path):
-    """Status, seconds and peak memory in MiB of a command on a file."""
+def measure(path, command):
+    """Prints status, seconds and peak memory in MiB of a command on a file."""
     with open(path, "rb") as source:
         start = time.monotonic()
         child = subprocess.Popen(command, stdin=source, stdout=subprocess.DEVNULL, stderr=subprocess.DEVNULL)
         _, status, usage = os.wait4(child.pid, 0)
         seconds = time.monotonic() - start
     child.returncode = os.waitstatus_to_exitcode(status)
-    return child.returncode, seconds, usage.ru_maxrss / 1024
+    print(child.returncode, seconds, usage.ru_maxrss / 1024)
+
+
+def measured(command, path):
+    """The same, measured from a small process: a child's peak counts what its parent held when it was started."""
+    out = subprocess.run([sys.executable, "-S", os.path.abspath(__file__), "--measure", path, *command],
+                         capture_output=True, text=True, check=True).stdout.split()
+    return int(out[0]), float(out[1]), float(out[2])
 
 
 def main():
@@ -73,4 +80,7 @@ def main():
 
 
 if __name__ == "__main__":
-    main()
+    if sys.argv[1:2] == ["--measure"]:
+        measure(sys.argv[2], sys.argv[3:])
+    else:
+        main()
