@@ -12,9 +12,10 @@ const REPLAY: &str = "replay 2 steps\n0 input 0\n1 expected 1 pkt 0 1 0\nabsent 
 
 const LIMIT: usize = 16_777_216;
 
-fn words(alloc: Global, words: &[&str]) -> Result<Vec<String>, AllocError> {
+// The words of a command line.
+fn words(alloc: Global, line: &str) -> Result<Vec<String>, AllocError> {
     let mut list = Vec::new(alloc);
-    for word in words {
+    for word in line.split_whitespace() {
         list.push(word.to_string(alloc)?)?;
     }
     Ok(list)
@@ -59,7 +60,7 @@ fn documents_and_their_answers(rt: HostRuntime) -> Result<(), Fail> {
         let document = LOG.replacen(rt.alloc(), part, other, 1)?;
         let mut source = MemSource::new(document.into_bytes(), 100, Vec::new(rt.alloc()));
         let mut sink = MemSink::new(rt.alloc(), 100, 100, Vec::new(rt.alloc()))?;
-        let words = words(rt.alloc(), &["replay"])?;
+        let words = words(rt.alloc(), "replay")?;
         let status = sts(&rt, rt.alloc(), words.as_slice(), &mut source, &mut sink);
         assert_eq!(rt; status.code, code, "at {other}");
         assert_eq!(rt; sink.taken(), text.as_bytes(), "at {other}");
@@ -69,27 +70,27 @@ fn documents_and_their_answers(rt: HostRuntime) -> Result<(), Fail> {
 
 #[test]
 fn words_that_are_no_form(rt: HostRuntime) -> Result<(), Fail> {
-    for list in [
-        [].as_slice(),
-        ["find"].as_slice(),
-        ["Replay"].as_slice(),
-        ["replay", "replay"].as_slice(),
-        ["--help"].as_slice(),
-        ["causes", "007"].as_slice(),
-        ["gen", "1", "2"].as_slice(),
+    for line in [
+        "",
+        "find",
+        "Replay",
+        "replay replay",
+        "--help",
+        "causes 007",
+        "gen 1 2",
     ] {
         let mut source = MemSource::new(padded(rt.alloc(), LOG, 0)?, 100, Vec::new(rt.alloc()));
         let mut sink = MemSink::new(rt.alloc(), 100, 100, Vec::new(rt.alloc()))?;
-        let words = words(rt.alloc(), list)?;
+        let words = words(rt.alloc(), line)?;
         let status = sts(&rt, rt.alloc(), words.as_slice(), &mut source, &mut sink);
-        assert_eq!(rt; (status.code, sink.taken().len()), (2, 0), "at {list:?}");
+        assert_eq!(rt; (status.code, sink.taken().len()), (2, 0), "at {line}");
     }
     Ok(())
 }
 
 #[test]
 fn faults_of_the_ends(rt: HostRuntime) -> Result<(), Fail> {
-    let words = words(rt.alloc(), &["replay"])?;
+    let words = words(rt.alloc(), "replay")?;
     let mut source = MemSource::new(padded(rt.alloc(), LOG, 0)?, 100, Vec::new(rt.alloc()));
     let mut sink = MemSink::new(rt.alloc(), 100, 16, vec![in rt.alloc(); 1]?)?;
     let cut_off = sts(&rt, rt.alloc(), words.as_slice(), &mut source, &mut sink);
@@ -109,7 +110,7 @@ fn the_longest_document(rt: HostRuntime) -> Result<(), Fail> {
         let document = padded(rt.alloc(), LOG, len)?;
         let mut source = MemSource::new(document, usize::MAX, Vec::new(rt.alloc()));
         let mut sink = MemSink::new(rt.alloc(), 100, 100, Vec::new(rt.alloc()))?;
-        let words = words(rt.alloc(), &["replay"])?;
+        let words = words(rt.alloc(), "replay")?;
         let status = sts(&rt, rt.alloc(), words.as_slice(), &mut source, &mut sink);
         assert_eq!(rt; status.code, code, "at {len}");
         assert_eq!(rt; sink.taken(), text.as_bytes(), "at {len}");
