@@ -4,9 +4,9 @@ ghost use Rattle.std.specs.Prelude.{◌≡◌, ◌↔◌, IsTrue};
 ghost use Rattle.listed.specs.Plain.{plain};
 
 use crate::header::Header;
-use crate::numbers::{u16_at, u32_at, u48_at};
 use byteorder::{BigEndian, ByteOrder};
 use listed::Plain;
+use wire_bytes::{u16_at, u32_at, u48_at};
 
 /// A simulated packet: its header, and a tag that tells it from others.
 #[derive(Clone, Copy, Debug, PartialEq, Eq)]

@@ -20,10 +20,18 @@ pub const OFPFW_TP_DST: u32 = 1 << 7;
 pub const OFPFW_NW_SRC_SHIFT: u32 = 8;
 /// How many bits that count has. From 32 on it is the whole field.
 pub const OFPFW_NW_SRC_BITS: u32 = 6;
+/// The bits of that count.
+pub const OFPFW_NW_SRC_MASK: u32 = ((1 << OFPFW_NW_SRC_BITS) - 1) << OFPFW_NW_SRC_SHIFT;
+/// That count where the whole source address is wildcarded.
+pub const OFPFW_NW_SRC_ALL: u32 = 32 << OFPFW_NW_SRC_SHIFT;
 /// The place of the count of low bits of the IPv4 destination address that are not compared.
 pub const OFPFW_NW_DST_SHIFT: u32 = 14;
 /// How many bits that count has. From 32 on it is the whole field.
 pub const OFPFW_NW_DST_BITS: u32 = 6;
+/// The bits of that count.
+pub const OFPFW_NW_DST_MASK: u32 = ((1 << OFPFW_NW_DST_BITS) - 1) << OFPFW_NW_DST_SHIFT;
+/// That count where the whole destination address is wildcarded.
+pub const OFPFW_NW_DST_ALL: u32 = 32 << OFPFW_NW_DST_SHIFT;
 /// The VLAN priority is wildcarded.
 pub const OFPFW_DL_VLAN_PCP: u32 = 1 << 20;
 /// The IP type of service is wildcarded.

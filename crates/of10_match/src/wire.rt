@@ -6,9 +6,9 @@ ghost use Rattle.of10_match.specs.Field.{IsValidAddress};
 
 use crate::field::Prefix;
 use crate::matches::Match;
-use crate::numbers::{u16_at, u32_at, u48_at};
 use crate::wildcards::*;
 use byteorder::{BigEndian, ByteOrder};
+use wire_bytes::{u16_at, u32_at, u48_at};
 
 /// The number field of a number and its bit of the wildcards: absent where the bit is set.
 fn number<T: Copy>(wildcards: u32, bit: u32, value: T) -> Option<T>
