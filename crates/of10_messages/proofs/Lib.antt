@@ -1,0 +1,14 @@
+pub mod Accepted
+pub mod Actions
+pub mod Bodies
+pub mod Cases
+pub mod Ports
+pub mod ReadParts
+pub mod ReadValid
+pub mod RoundTripActions
+pub mod RoundTripBodies
+pub mod RoundTripLong
+pub mod RoundTripMessages
+pub mod RoundTripPorts
+pub mod Sizes
+pub mod Steps

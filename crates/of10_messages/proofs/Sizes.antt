@@ -1,0 +1,45 @@
+-- The lengths of the parts of messages.
+use Rattle.std.proofs.Common.{◌≡◌, ◌+◌, ◌*◌, ◌<◌, ◌^◌, ℕ, get_or, List, [], ◌∷◌, length, refl, ap, arith, length-append}
+use Rattle.std.specs.Prelude.{All}
+use Rattle.std.specs.List.{flat_map}
+use Rattle.std.proofs.lemmas.List.Folds.{length-flat_map-take}
+use Rattle.of10_messages.specs.declared.action.Action.{Action}
+use Rattle.std.proofs.lemmas.List.Elements.{All-head, All-tail}
+use Rattle.of10_match.specs.Wire.{match_bytes}
+use Rattle.of10_match.specs.declared.matches.Match.{Match}
+use Rattle.of10_messages.specs.Valid.{IsValidPort}
+use Rattle.of10_messages.specs.Wire.{action_bytes, actions_bytes, features_bytes, features_fields, flow_mod_bytes, flow_mod_fields, port_bytes, port_head, port_tail}
+use Rattle.of10_messages.specs.declared.message.FlowMod.{FlowMod}
+use Rattle.of10_messages.specs.declared.message.Features.{Features}
+use Rattle.of10_messages.specs.declared.port.PortDesc.{PortDesc}
+
+pub length_match : (m : Match) → length (match_bytes m) ≡ 40
+unfolding match_bytes
+length_match m = refl
+
+pub length_port : (p : PortDesc) → length p.name ≡ 16 → length (port_bytes p) ≡ 48
+unfolding port_bytes port_head port_tail
+length_port p named = simp length-append (omega (arith, named))
+
+pub length_ports : (ports : List PortDesc) → All IsValidPort ports → length (flat_map port_bytes ports) ≡ 48 * length ports
+length_ports [] named = refl
+length_ports (p ∷ ports) named =
+    let valid : IsValidPort p = All-head IsValidPort p ports named in
+    let one = length_port p valid.name_length in
+    let rest = length_ports ports (All-tail IsValidPort p ports named) in
+    simp length-append (omega (arith, one, rest))
+
+pub length_features : (f : Features) → All IsValidPort f.ports → length (features_bytes f) ≡ 24 + 48 * length f.ports
+unfolding features_bytes features_fields
+length_features f named = simp length-append (omega (arith, length_ports f.ports named))
+
+pub length_flow_mod : (f : FlowMod) → length (flow_mod_bytes f) ≡ 64 + length (actions_bytes f.actions)
+unfolding flow_mod_bytes flow_mod_fields
+length_flow_mod f = simp length-append (omega (arith, length_match f.matches))
+
+-- each of some actions is no longer than all
+pub action_fits : (actions : List Action) (i : ℕ) (a : Action) → i < length actions → a ≡ get_or actions i a → length (actions_bytes actions) < 2 ^ 16 → length (action_bytes a) < 2 ^ 16
+action_fits actions i a within is fits =
+    let part = length-flat_map-take action_bytes actions i a within in
+    let same : length (action_bytes a) ≡ length (action_bytes (get_or actions i a)) = ap (λ (x : Action). length (action_bytes x)) is in
+    omega (arith, part, same, fits)
