@@ -1,0 +1,4 @@
+pub mod Fields
+pub mod Stream
+pub mod Taken
+pub mod TypeCases

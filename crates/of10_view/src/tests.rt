@@ -1,0 +1,3 @@
+//! Views of whole messages, and messages out of streams.
+mod streams;
+mod views;
