@@ -1,22 +1,45 @@
-//! Times layers of the workspace, one by one: `sts_bench turn_book TRIES`. Figures go to standard error.
+//! Times layers of the workspace, one by one: `sts_bench LAYER COUNT`, where LAYER is `messages`, `turn_book` or `all`.
+//! Figures go to standard error. Messages go by whole hundreds.
 #![tactic(auto)]
 
+mod messages;
 mod turns;
 
 use anyhow::{Result, bail};
 use std::env;
+use std::thread::Threads;
+use std::time::{Clock, Duration};
 
-fn main(rt: HostRuntime) -> Result<()> {
-    let mut words = env::args(&rt)?.skip(1);
-    let (Some(layer), Some(tries)) = (words.next(), words.next()) else {
-        bail!("usage: sts_bench turn_book TRIES");
-    };
-    if layer.as_str() != "turn_book" {
-        bail!("usage: sts_bench turn_book TRIES");
+/// Nanoseconds for each of so many calls, in tenths.
+fn tenths_each(time: Duration, count: u64) -> u128 {
+    time.as_nanos() * 10 / u128::from(count.max(1))
+}
+
+fn time_messages<R: AllocGlobal + Clock + Eprint + Print + Sync>(rt: &R, count: u64) -> Result<()> {
+    let rounds = count / u64::from(messages::ROUND);
+    let calls = rounds.saturating_mul(u64::from(messages::ROUND));
+    let figures = messages::timed(rt, rounds)?;
+    for (name, figure) in [
+        ("decode", figures.decoded),
+        ("encode", figures.encoded),
+        ("View::of", figures.viewed),
+    ] {
+        let tenths = tenths_each(figure.time, calls);
+        eprintln!(rt; "messages: {name}: {}.{} ns each", tenths / 10, tenths % 10)?;
     }
-    let tries = tries.parse::<u64>()?;
+    println!(rt;
+        "messages: {calls} FLOW_MODs of 80 bytes: cookies {}, lengths {}, xids {}",
+        figures.decoded.sum, figures.encoded.sum, figures.viewed.sum
+    )?;
+    Ok(())
+}
+
+fn time_turns<R: AllocGlobal + Clock + Eprint + Print + Threads + Sync>(
+    rt: &R,
+    tries: u64,
+) -> Result<()> {
     for threads in [1, 2, 4] {
-        let (time, won) = turns::timed(&rt, threads, tries)?;
+        let (time, won) = turns::timed(rt, threads, tries)?;
         let nanos = time.as_nanos();
         eprintln!(rt;
             "turn_book: {threads} threads, {tries} tries each: {won} turns won in {nanos} ns"
@@ -24,4 +47,21 @@ fn main(rt: HostRuntime) -> Result<()> {
     }
     println!(rt; "turn_book: 1, 2 and 4 threads, {tries} tries each")?;
     Ok(())
+}
+
+fn main(rt: HostRuntime) -> Result<()> {
+    let mut words = env::args(&rt)?.skip(1);
+    let (Some(layer), Some(count)) = (words.next(), words.next()) else {
+        bail!("usage: sts_bench messages|turn_book|all COUNT");
+    };
+    let count = count.parse::<u64>()?;
+    match layer.as_str() {
+        "messages" => time_messages(&rt, count),
+        "turn_book" => time_turns(&rt, count),
+        "all" => {
+            time_messages(&rt, count)?;
+            time_turns(&rt, count)
+        }
+        _ => bail!("usage: sts_bench messages|turn_book|all COUNT"),
+    }
 }
