@@ -6,7 +6,7 @@ ghost use Rattle.of10_match.specs.Wire.{match_of};
 use listed::Listed;
 use of10_match::Match;
 use std::alloc::{AllocError, Global};
-use wire_bytes::{front_of, rest_at};
+use wire_bytes::rest_at;
 
 /// A copy of the bytes from a place on.
 pub(crate) fn copy_at(alloc: Global, bytes: &[u8], place: usize) -> Result<Listed<u8>, AllocError>
@@ -21,7 +21,8 @@ pub(crate) fn match_at(bytes: &[u8], place: usize) -> Match
     requires { place + 40 ≤ length bytes.now }
     ensures { result ≡ match_of (take 40 (drop place bytes.now)) }
 {
-    let mut wire = [0; 40];
-    wire.copy_from_slice(front_of(rest_at(bytes, place), 40));
-    Match::from_wire(&wire)
+    match rest_at(bytes, place).first_chunk::<40>() {
+        Some(wire) => Match::from_wire(wire),
+        None => unreachable!(),
+    }
 }

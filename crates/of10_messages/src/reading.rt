@@ -2,7 +2,7 @@
 
 ghost use Rattle.std.specs.Prelude.{◌≡◌, ◌+◌, ◌-◌, ◌*◌, ◌/◌, ◌≤◌, ◌≢◌, Some, None, IfOk, IfErr, length, take, drop};
 ghost use Rattle.of10_messages.specs.declared.bad.BadMessage.TheVariants.{OutOfMemory};
-ghost use Rattle.of10_messages.specs.Reading.{Reads, action_of, actions_of, features_of, flow_mod_of, message_of, message_of_kind, port_of, ports_of};
+ghost use Rattle.of10_messages.specs.Reading.{Reads, action_of, actions_of, features_of, message_of, message_of_kind, port_of, ports_of};
 ghost use Rattle.of10_messages.specs.Refusal.{IsAccepted, IsGoodAction, first_bad, out_actions, refusal_of};
 ghost use Rattle.of10_messages.specs.Valid.{IsValidMessage};
 ghost use Rattle.of10_messages.specs.declared.message.Message.TheVariants.{PacketOut};
@@ -54,7 +54,8 @@ fn actions_of(alloc: Global, bytes: &[u8]) -> Result<Actions10, AllocError>
     requires { first_bad bytes.now ≡ None }
     ensures { IfOk result (λ actions. actions ≡ actions_of bytes.now) }
 {
-    let mut actions = Listed::new(alloc);
+    // no action has fewer than 8 bytes
+    let mut actions = Listed::of(Vec::with_capacity(alloc, bytes.len() / 8)?);
     let mut at = 0;
     while at < bytes.len() {
         let rest = rest_at(bytes, at);
@@ -113,32 +114,38 @@ fn features_of(alloc: Global, bytes: &[u8]) -> Result<Features, AllocError>
     })
 }
 
-/// What a FLOW_MOD says.
+/// The FLOW_MOD of bytes whose actions are not bad.
 #[tactic(auto, unfolding(crate::specs::Reading::flow_mod_of))]
-fn flow_mod_of(alloc: Global, bytes: &[u8]) -> Result<FlowMod, AllocError>
+fn flow_mod(alloc: Global, xid: u32, bytes: &[u8]) -> Result<Message, BadMessage>
     requires header { 72 ≤ length bytes.now }
     requires actions { first_bad (drop 72 bytes.now) ≡ None }
-    ensures { IfOk result (λ mods. mods ≡ flow_mod_of bytes.now) }
+    ensures ok { IfOk result (λ m. m ≡ message_of_kind 14 xid bytes.now) }
+    ensures err { IfErr result (λ e. e ≡ OutOfMemory) }
 {
-    Ok(FlowMod {
-        matches: match_at(bytes, 8),
-        cookie: u64_at(bytes, 48),
-        command: u16_at(bytes, 56),
-        idle_timeout: u16_at(bytes, 58),
-        hard_timeout: u16_at(bytes, 60),
-        priority: u16_at(bytes, 62),
-        buffer_id: u32_at(bytes, 64),
-        out_port: u16_at(bytes, 68),
-        flags: u16_at(bytes, 70),
-        actions: actions_of(alloc, rest_at(bytes, 72))?,
+    let actions = actions_of(alloc, rest_at(bytes, 72))?;
+    Ok(Message::FlowMod {
+        xid,
+        mods: FlowMod {
+            matches: match_at(bytes, 8),
+            cookie: u64_at(bytes, 48),
+            command: u16_at(bytes, 56),
+            idle_timeout: u16_at(bytes, 58),
+            hard_timeout: u16_at(bytes, 60),
+            priority: u16_at(bytes, 62),
+            buffer_id: u32_at(bytes, 64),
+            out_port: u16_at(bytes, 68),
+            flags: u16_at(bytes, 70),
+            actions,
+        },
     })
 }
 
 /// The message of bytes that are not refused.
 #[tactic(auto, unfolding(crate::specs::Reading::message_of))]
-fn message_of(alloc: Global, bytes: &[u8]) -> Result<Message, AllocError>
+fn message_of(alloc: Global, bytes: &[u8]) -> Result<Message, BadMessage>
     requires { IsAccepted bytes.now }
-    ensures { IfOk result (λ m. m ≡ message_of bytes.now) }
+    ensures ok { IfOk result (λ m. m ≡ message_of bytes.now) }
+    ensures err { IfErr result (λ e. e ≡ OutOfMemory) }
 {
     let xid = u32_at(bytes, 4);
     match bytes[1] {
@@ -164,10 +171,7 @@ fn message_of(alloc: Global, bytes: &[u8]) -> Result<Message, AllocError>
         OFPT_FLOW_REMOVED => Ok(flow_removed(xid, bytes)),
         OFPT_PORT_STATUS => Ok(port_status(xid, bytes)),
         OFPT_PACKET_OUT => packet_out(alloc, xid, bytes),
-        OFPT_FLOW_MOD => Ok(Message::FlowMod {
-            xid,
-            mods: flow_mod_of(alloc, bytes)?,
-        }),
+        OFPT_FLOW_MOD => flow_mod(alloc, xid, bytes),
         OFPT_BARRIER_REQUEST => Ok(Message::BarrierRequest { xid }),
         OFPT_BARRIER_REPLY => Ok(Message::BarrierReply { xid }),
         kind => Ok(Message::Other {
@@ -178,9 +182,10 @@ fn message_of(alloc: Global, bytes: &[u8]) -> Result<Message, AllocError>
     }
 }
 
-fn error(alloc: Global, xid: u32, bytes: &[u8]) -> Result<Message, AllocError>
+fn error(alloc: Global, xid: u32, bytes: &[u8]) -> Result<Message, BadMessage>
     requires { 12 ≤ length bytes.now }
-    ensures { IfOk result (λ m. m ≡ message_of_kind 1 xid bytes.now) }
+    ensures ok { IfOk result (λ m. m ≡ message_of_kind 1 xid bytes.now) }
+    ensures err { IfErr result (λ e. e ≡ OutOfMemory) }
 {
     Ok(Message::Error {
         xid,
@@ -212,9 +217,10 @@ fn set_config(xid: u32, bytes: &[u8]) -> Message
     }
 }
 
-fn packet_in(alloc: Global, xid: u32, bytes: &[u8]) -> Result<Message, AllocError>
+fn packet_in(alloc: Global, xid: u32, bytes: &[u8]) -> Result<Message, BadMessage>
     requires { 18 ≤ length bytes.now }
-    ensures { IfOk result (λ m. m ≡ message_of_kind 10 xid bytes.now) }
+    ensures ok { IfOk result (λ m. m ≡ message_of_kind 10 xid bytes.now) }
+    ensures err { IfErr result (λ e. e ≡ OutOfMemory) }
 {
     Ok(Message::PacketIn {
         xid,
@@ -256,12 +262,13 @@ fn port_status(xid: u32, bytes: &[u8]) -> Message
 }
 
 /// The PACKET_OUT of bytes whose actions are not bad.
-fn packet_out(alloc: Global, xid: u32, bytes: &[u8]) -> Result<Message, AllocError>
+fn packet_out(alloc: Global, xid: u32, bytes: &[u8]) -> Result<Message, BadMessage>
     requires header { 16 ≤ length bytes.now }
     requires room { 16 + big_from 14 2 bytes.now ≤ length bytes.now }
     requires actions { first_bad (out_actions bytes.now) ≡ None }
-    ensures { IfOk result (λ m. m ≡ PacketOut xid (big_from 8 4 bytes.now) (big_from 12 2 bytes.now) (big_from 14 2 bytes.now)
+    ensures ok { IfOk result (λ m. m ≡ PacketOut xid (big_from 8 4 bytes.now) (big_from 12 2 bytes.now) (big_from 14 2 bytes.now)
         (actions_of (out_actions bytes.now)) (drop (big_from 14 2 bytes.now) (drop 16 bytes.now))) }
+    ensures err { IfErr result (λ e. e ≡ OutOfMemory) }
 {
     let actions_len = u16_at(bytes, 14);
     let len = usize::from(actions_len);
@@ -287,7 +294,6 @@ pub fn decode(alloc: Global, bytes: &[u8]) -> Result<Message, BadMessage>
     if let Some(bad) = refusal(bytes) {
         return Err(bad);
     }
-    let message = message_of(alloc, bytes)?;
     bytes_hold_valid_messages();
-    Ok(message)
+    message_of(alloc, bytes)
 }

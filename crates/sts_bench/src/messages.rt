@@ -63,8 +63,10 @@ fn cookies(alloc: Global, wires: &[Vec<u8>], rounds: u64) -> std::result::Result
     let mut sum: u64 = 0;
     for _ in 0..rounds {
         for bytes in wires {
-            if let Message::FlowMod { mods, .. } = decode(alloc, bytes.as_slice())? {
-                sum = sum.wrapping_add(mods.cookie);
+            match &decode(alloc, bytes.as_slice()) {
+                Ok(Message::FlowMod { mods, .. }) => sum = sum.wrapping_add(mods.cookie),
+                Ok(_) => {}
+                Err(bad) => return Err(*bad),
             }
         }
     }

@@ -30,8 +30,8 @@ packet_out-requires c = record {
   actions = out_good c.args.bytes.now c.requires c.in-13.is;
 }
 
-pub flow_mod_of-requires : goal.flow_mod_of-requires
-flow_mod_of-requires c = record {
+pub flow_mod-requires : goal.flow_mod-requires
+flow_mod-requires c = record {
   header = least_of c.args.bytes.now 14 c.requires.body c.in-14.is;
   actions = mods_good c.args.bytes.now c.requires c.in-14.is;
 }
