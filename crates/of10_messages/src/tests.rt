@@ -47,10 +47,7 @@ const OTHERS: [&[u8]; 19] = [
 fn read(alloc: Global, bytes: &[u8]) -> Result<Message, Fail>
     ensures { IfOk result (λ m. IsValidMessage m) }
 {
-    match decode(alloc, bytes) {
-        Ok(message) => Ok(message),
-        Err(_) => Err(Fail::from("the bytes are a message")),
-    }
+    Ok(decode(alloc, bytes)?)
 }
 
 // The refusal of the bytes, or `None` where they are read.

@@ -33,10 +33,7 @@ const OUT_ACTIONS: [(u16, usize, usize); 13] = [
 ];
 
 fn view(bytes: &[u8]) -> Result<View<'_>, Fail> {
-    match View::of(bytes) {
-        Ok(view) => Ok(view),
-        Err(_) => Err(Fail::from("the bytes are a message")),
-    }
+    Ok(View::of(bytes)?)
 }
 
 #[test]
