@@ -1,7 +1,6 @@
 pub mod Accepted
 pub mod Actions
 pub mod Bodies
-pub mod Cases
 pub mod Ports
 pub mod ReadParts
 pub mod ReadValid

@@ -8,7 +8,7 @@ use Rattle.std.specs.Prelude.{All}
 use Rattle.byteorder.specs.Endian.{big_from}
 use Rattle.byteorder.specs.Numbers.{big_from-lt}
 use Rattle.of10_messages.proofs.Actions.{first_start, good_action, later_bad, none_bad}
-use Rattle.of10_messages.proofs.Cases.{up_to_10}
+use Rattle.of10_messages.specs.TypeCases.{up_to_10}
 use Rattle.of10_messages.specs.Reading.{action_of, action_of_kind, actions_of, port_of, ports_of}
 use Rattle.of10_messages.specs.Refusal.{IsGoodAction, action_starts, first_bad, fixed_length, told_length}
 use Rattle.of10_messages.specs.Valid.{AreBytes, IsOtherAction, IsValidAction, IsValidPort}
@@ -46,7 +46,7 @@ record Fine (a : Action) (told : ℕ) : Type 0 where
   size : length (action_bytes a) ≡ told
 
 -- an action of a type above those with fields of their own keeps its body
-other_kind : (kind : ℕ) (bytes : List ℕ) → 10 < kind → action_of_kind kind bytes ≡ action.Other kind (drop 4 (take (told_length bytes) bytes))
+pub other_kind : (kind : ℕ) (bytes : List ℕ) → 10 < kind → action_of_kind kind bytes ≡ action.Other kind (drop 4 (take (told_length bytes) bytes))
 other_kind kind bytes high =
     let ne : (j : ℕ) → j ≤ 10 → (kind == j) ≡ false = λ j low. ne_eqb kind j (λ same. omega arith) in
     rw (ne 0 (lit≤ tt), ne 1 (lit≤ tt), ne 2 (lit≤ tt), ne 3 (lit≤ tt), ne 4 (lit≤ tt), ne 5 (lit≤ tt), ne 6 (lit≤ tt), ne 7 (lit≤ tt), ne 8 (lit≤ tt), ne 9 (lit≤ tt), ne 10 (lit≤ tt)) refl

@@ -7,7 +7,7 @@ use Rattle.of10_match.specs.Match.{IsValidMatch}
 use Rattle.of10_match.specs.Wire.{match_of}
 use Rattle.of10_messages.proofs.Accepted.{accepted}
 use Rattle.of10_messages.proofs.Bodies.{least_of, mods_good, out_good, out_room}
-use Rattle.of10_messages.proofs.Cases.{up_to_21}
+use Rattle.of10_messages.specs.TypeCases.{up_to_21}
 use Rattle.of10_messages.proofs.ReadParts.{Holds, are_bytes, fine_actions, held_drop, held_take, port_valid, ports_count, ports_valid}
 use Rattle.of10_messages.proofs.Sizes.{length_features, length_flow_mod, length_match, length_port}
 use Rattle.of10_messages.specs.Reading.{Reads, features_of, flow_mod_of, message_of, message_of_kind, port_of}

@@ -1,12 +1,13 @@
 -- What is written of actions is read back.
 use Rattle.std.proofs.Common.{◌≡◌, ◌+◌, ◌<◌, ◌≤◌, ◌%◌, ◌^◌, ◌==◌, ◌&&◌, ◌∙◌, ℕ, false, not, List, [], ◌∷◌, ◌++◌, length, take, drop, map, None, nat_le, refl, sym, ap, arith, inl, inr, length-append}
 use Rattle.std.specs.Prelude.{All}
-use Rattle.std.proofs.lemmas.Bool.{and_left, and_right, cases_lt, eq-eqb, le-ltb, lt-leb, ne_eqb, not_from_true, or_from}
+use Rattle.std.proofs.lemmas.Bool.{and_left, and_right, cases_lt, eq-eqb, le-ltb, lt-leb, not_from_true, or_from}
 use Rattle.std.proofs.lemmas.List.Elements.{All-head, All-tail}
 use Rattle.std.proofs.Math.Seq.{drop-append_seam, take-append_seam}
 use Rattle.byteorder.specs.Endian.{big_from}
 use Rattle.byteorder.specs.Numbers.{big_number-reads_back}
 use Rattle.of10_messages.proofs.Actions.{first_start, good_action}
+use Rattle.of10_messages.proofs.ReadParts.{other_kind}
 use Rattle.of10_messages.specs.Reading.{action_of, action_of_kind, actions_of}
 use Rattle.of10_messages.specs.Refusal.{IsGoodAction, action_starts, first_bad, fixed_length, is_bad_action, told_length}
 use Rattle.of10_messages.specs.Valid.{IsOtherAction, IsValidAction}
@@ -19,23 +20,6 @@ pub record ReadsAction (a : Action) (bytes : List ℕ) : Type 0 where
   pub told : told_length bytes ≡ length (action_bytes a)
   pub good : is_bad_action bytes ≡ false
   pub read : action_of bytes ≡ a
-
--- an action of a type above 10
-other_kind : (kind : ℕ) (bytes : List ℕ) → 10 < kind → action_of_kind kind bytes ≡ action.Other kind (drop 4 (take (told_length bytes) bytes))
-other_kind kind bytes above =
-    rw (
-      ne_eqb kind 0 (λ e. omega arith),
-      ne_eqb kind 1 (λ e. omega arith),
-      ne_eqb kind 2 (λ e. omega arith),
-      ne_eqb kind 3 (λ e. omega arith),
-      ne_eqb kind 4 (λ e. omega arith),
-      ne_eqb kind 5 (λ e. omega arith),
-      ne_eqb kind 6 (λ e. omega arith),
-      ne_eqb kind 7 (λ e. omega arith),
-      ne_eqb kind 8 (λ e. omega arith),
-      ne_eqb kind 9 (λ e. omega arith),
-      ne_eqb kind 10 (λ e. omega arith),
-    ) refl
 
 -- an action is not bad by its parts
 pub not_bad : (bytes : List ℕ) → IsGoodAction bytes → is_bad_action bytes ≡ false

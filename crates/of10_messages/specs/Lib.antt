@@ -1,4 +1,5 @@
 pub mod Reading
 pub mod Refusal
+pub mod TypeCases
 pub mod Valid
 pub mod Wire

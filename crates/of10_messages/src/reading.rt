@@ -294,6 +294,7 @@ pub fn decode(alloc: Global, bytes: &[u8]) -> Result<Message, BadMessage>
     if let Some(bad) = refusal(bytes) {
         return Err(bad);
     }
+    // A law does nothing at run time: its clause is a fact for the proof.
     bytes_hold_valid_messages();
     message_of(alloc, bytes)
 }

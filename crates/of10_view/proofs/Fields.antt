@@ -8,7 +8,7 @@ use Rattle.of10_messages.specs.Reading.{action_of, actions_of, flow_mod_of, mess
 use Rattle.of10_messages.specs.Refusal.{action_starts, first_bad, out_actions}
 use Rattle.of10_messages.specs.Wire.{action_kind, message_kind, message_xid}
 use Rattle.of10_messages.specs.declared.message.Message.{Message}
-use Rattle.of10_view.proofs.TypeCases.{up_to_21}
+use Rattle.of10_messages.specs.TypeCases.{up_to_21}
 use Rattle.of10_view.proofs.Taken.{AreInOrder, actions_kinds, actions_taken}
 use Rattle.of10_view.specs.Parts.{action_parts, actions_part, data_of_kind, data_part, match_part, message_actions, message_data, message_match}
 

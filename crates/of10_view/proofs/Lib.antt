@@ -1,4 +1,3 @@
 pub mod Fields
 pub mod Stream
 pub mod Taken
-pub mod TypeCases

@@ -5,7 +5,7 @@ ghost use Rattle.std.specs.Borrow.{sem};
 ghost use Rattle.of10_view.specs.Stream.{left_of, next_of};
 
 use crate::view::View;
-use of10_messages::{BadMessage, refusal};
+use of10_messages::{BadMessage, OFP_VERSION, refusal};
 use std::alloc::{AllocError, Global};
 use wire_bytes::{front_of, rest_at, u16_at};
 
@@ -44,7 +44,7 @@ impl Step {
             return Step::NotYet { need: 8, have };
         }
         let version = bytes[0];
-        if version != 1 {
+        if version != OFP_VERSION {
             return Step::Broken(BadMessage::Version(version));
         }
         let said = u16_at(bytes, 2);
