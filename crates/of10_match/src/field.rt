@@ -1,12 +1,56 @@
 //! Fields of a match, one by one: what a field takes, and how two fields relate. A field that is
 //! absent takes every value.
 
-ghost use Rattle.std.specs.Prelude.{◌≡◌, ◌≤◌};
-ghost use Rattle.of10_match.specs.Field.{IsValidAddress, covers_address, covers_by, leading_bits, overlaps_address, overlaps_by, takes_address, takes_by};
+ghost use Rattle.std.specs.Prelude.{◌≡◌, ◌≤◌, ◌↔◌, IsTrue};
+ghost use Rattle.of10_match.specs.Field.{IsPrefix, IsValidAddress, IsValidNumber, covers_address, covers_by, leading_bits, overlaps_address, overlaps_by, takes_address, takes_by};
 
 /// An IPv4 address and the number of its leading bits that are compared, 1 to 32. The bits that are
 /// not compared are zero.
 pub type Prefix = (u32, u8);
+
+/// A field of 16 bits lies within its width: a fact for the proof.
+pub(crate) fn fits_16_bits(field: Option<u16>)
+    ensures { IsValidNumber 16 field }
+{
+    if let Some(_number) = field {}
+}
+
+/// A field of eight bits lies within its width: a fact for the proof.
+pub(crate) fn fits_8_bits(field: Option<u8>)
+    ensures { IsValidNumber 8 field }
+{
+    if let Some(_number) = field {}
+}
+
+/// Whether an Ethernet address lies within its 48 bits, where the field is there.
+pub(crate) fn fits_48_bits(field: Option<u64>) -> bool
+    ensures { IsTrue result ↔ IsValidNumber 48 field }
+{
+    match field {
+        None => true,
+        Some(number) => number < 1 << 48,
+    }
+}
+
+/// Whether an address field that is there holds a valid prefix.
+pub(crate) fn is_valid_address(field: Option<Prefix>) -> bool
+    ensures { IsTrue result ↔ IsValidAddress field }
+{
+    match field {
+        None => true,
+        Some((address, bits)) => is_prefix(address, bits),
+    }
+}
+
+/// Whether so many leading bits are compared, 1 to 32, and the others are zero.
+fn is_prefix(address: u32, bits: u8) -> bool
+    ensures { IsTrue result ↔ IsPrefix (address, bits) }
+{
+    if bits < 1 || bits > 32 {
+        return false;
+    }
+    address % (1 << (32 - bits)) == 0
+}
 
 /// The leading bits of an address, as a number.
 fn leading_bits(address: u32, bits: u8) -> u32

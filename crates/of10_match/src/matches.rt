@@ -40,6 +40,7 @@ pub struct Match {
 }
 
 impl Match {
+    ghost use Rattle.of10_match.specs.Field.{IsValidNumber};
     ghost use Rattle.of10_match.specs.Match.{any_match, covers, has_wildcard, overlaps, takes, Covers, IsValidMatch, Overlaps, Takes};
 
     /// The match with every field wildcarded.
@@ -60,6 +61,38 @@ impl Match {
             tp_src: None,
             tp_dst: None,
         }
+    }
+
+    /// Whether each field lies within its width: the types see to all but the two Ethernet addresses
+    /// and the two IPv4 ones.
+    pub fn is_valid(&self) -> bool
+        ensures { IsTrue result ↔ IsValidMatch self.now }
+    {
+        self.narrow_fields();
+        let ethernet = field::fits_48_bits(self.dl_src) & field::fits_48_bits(self.dl_dst);
+        let ip = field::is_valid_address(self.nw_src) & field::is_valid_address(self.nw_dst);
+        ethernet & ip
+    }
+
+    /// The fields whose types see to their widths: facts for the proof.
+    fn narrow_fields(&self)
+        ensures in_port { IsValidNumber 16 self.now.in_port }
+        ensures dl_vlan { IsValidNumber 16 self.now.dl_vlan }
+        ensures dl_vlan_pcp { IsValidNumber 8 self.now.dl_vlan_pcp }
+        ensures dl_type { IsValidNumber 16 self.now.dl_type }
+        ensures nw_tos { IsValidNumber 8 self.now.nw_tos }
+        ensures nw_proto { IsValidNumber 8 self.now.nw_proto }
+        ensures tp_src { IsValidNumber 16 self.now.tp_src }
+        ensures tp_dst { IsValidNumber 16 self.now.tp_dst }
+    {
+        field::fits_16_bits(self.in_port);
+        field::fits_16_bits(self.dl_vlan);
+        field::fits_8_bits(self.dl_vlan_pcp);
+        field::fits_16_bits(self.dl_type);
+        field::fits_8_bits(self.nw_tos);
+        field::fits_8_bits(self.nw_proto);
+        field::fits_16_bits(self.tp_src);
+        field::fits_16_bits(self.tp_dst);
     }
 
     /// Whether the match takes a packet that comes in by a port.
