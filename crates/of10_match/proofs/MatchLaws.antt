@@ -5,9 +5,9 @@ use Rattle.std.proofs.lemmas.Bool.Decides.{Decides-eqb}
 use Rattle.std.specs.Bool.{Decides}
 use Rattle.std.specs.Option.{option_eq}
 use Rattle.of10_match.proofs.FieldLaws.{TakesAddress-covers_address, TakesAddress-overlaps_address, TakesAddress-takes_address, TakesNumber-covers_by, TakesNumber-overlaps_by, TakesNumber-takes_by, covers_address-TakesAddress, covers_by-TakesNumber, given-fits, given-taken, given_address-fits, given_address-taken, overlaps_address-shared, overlaps_by-shared, takes_address-TakesAddress, takes_by-TakesNumber}
-use Rattle.of10_match.specs.Field.{IsValidAddress, IsValidNumber, TakesAddress, TakesNumber}
+use Rattle.of10_match.specs.Field.{IsValidAddress, IsValidNumber, TakesAddress, TakesNumber, same_prefix}
 use Rattle.of10_match.specs.Header.{IsValidHeader}
-use Rattle.of10_match.specs.Match.{Covers, IsValidMatch, Overlaps, Takes, covers, overlaps, takes}
+use Rattle.of10_match.specs.Match.{Covers, IsValidMatch, Overlaps, Takes, covers, overlaps, same, takes}
 use Rattle.of10_match.specs.Wire.{address_of}
 use Rattle.of10_match.specs.declared.header.Header.{Header}
 use Rattle.of10_match.specs.declared.matches.Match.{Match}
@@ -243,6 +243,15 @@ overlaps-Overlaps m n u v =
     } in
     (forth, back)
 
+-- a valid match covers itself, and overlaps itself by its own fields
+pub covers-itself : (m : Match) → IsValidMatch m → IsTrue (covers m m)
+covers-itself m v = (covers-Covers m m v v).1 (λ port h fits valid t. t)
+
+pub overlaps-itself : (m : Match) → IsValidMatch m → IsTrue (overlaps m m)
+overlaps-itself m v =
+    let w = choices_of m v in
+    (overlaps-Overlaps m m v v).1 record { port = w.in_port.number; header = header_of w; port_fits = w.in_port.fits; valid = valid_of w; one = taken_of w; both = taken_of w }
+
 -- two fields are equal where `==` says so
 option_eq-Decides : {X : Type 0} (eq : X → X → Bool) → ((x y : X) → Decides (eq x y) (x ≡ y)) → (o s : Option X) → Decides (option_eq eq o s) (o ≡ s)
 option_eq-Decides eq each None None = (λ _. refl, λ _. refl)
@@ -251,7 +260,7 @@ option_eq-Decides eq each (Some x) None = (λ h. cc, λ h. cc)
 option_eq-Decides eq each (Some x) (Some y) = (λ h. ap Some ((each x y).0 h), λ h. (each x y).1 (cc))
 
 -- two addresses with their counts
-pair_eq-Decides : (p q : ℕ × ℕ) → Decides (nat_eq p.0 q.0 && nat_eq p.1 q.1) (p ≡ q)
+pair_eq-Decides : (p q : ℕ × ℕ) → Decides (same_prefix p q) (p ≡ q)
 pair_eq-Decides p q =
     let forth : (nat_eq p.0 q.0 && nat_eq p.1 q.1) ≡ true → p ≡ q = λ h.
     let w = and_parts (nat_eq p.0 q.0) (nat_eq p.1 q.1) h in
@@ -265,33 +274,19 @@ pair_eq-Decides p q =
 numbers_eq : (o s : Option ℕ) → Decides (option_eq nat_eq o s) (o ≡ s)
 numbers_eq = option_eq-Decides nat_eq Decides-eqb
 
-addresses_eq : (o s : Option (ℕ × ℕ)) → Decides (option_eq (λ p q. nat_eq p.0 q.0 && nat_eq p.1 q.1) o s) (o ≡ s)
-addresses_eq = option_eq-Decides (λ p q. nat_eq p.0 q.0 && nat_eq p.1 q.1) pair_eq-Decides
-
--- what the derived `==` computes: the fields in their order
-abbrev match_eq : Match → Match → Bool
-match_eq m n = option_eq nat_eq m.in_port n.in_port
-    && (option_eq nat_eq m.dl_src n.dl_src
-    && (option_eq nat_eq m.dl_dst n.dl_dst
-    && (option_eq nat_eq m.dl_vlan n.dl_vlan
-    && (option_eq nat_eq m.dl_vlan_pcp n.dl_vlan_pcp
-    && (option_eq nat_eq m.dl_type n.dl_type
-    && (option_eq nat_eq m.nw_tos n.nw_tos
-    && (option_eq nat_eq m.nw_proto n.nw_proto
-    && (option_eq (λ p q. nat_eq p.0 q.0 && nat_eq p.1 q.1) m.nw_src n.nw_src
-    && (option_eq (λ p q. nat_eq p.0 q.0 && nat_eq p.1 q.1) m.nw_dst n.nw_dst
-    && (option_eq nat_eq m.tp_src n.tp_src
-    && (option_eq nat_eq m.tp_dst n.tp_dst)))))))))))
+addresses_eq : (o s : Option (ℕ × ℕ)) → Decides (option_eq same_prefix o s) (o ≡ s)
+addresses_eq = option_eq-Decides same_prefix pair_eq-Decides
 
 -- two matches with the same fields are one
 pub fields-≡ : (m n : Match) → m.in_port ≡ n.in_port → m.dl_src ≡ n.dl_src → m.dl_dst ≡ n.dl_dst → m.dl_vlan ≡ n.dl_vlan → m.dl_vlan_pcp ≡ n.dl_vlan_pcp → m.dl_type ≡ n.dl_type → m.nw_tos ≡ n.nw_tos → m.nw_proto ≡ n.nw_proto → m.nw_src ≡ n.nw_src → m.nw_dst ≡ n.nw_dst → m.tp_src ≡ n.tp_src → m.tp_dst ≡ n.tp_dst → m ≡ n
 fields-≡ m n in_port dl_src dl_dst dl_vlan dl_vlan_pcp dl_type nw_tos nw_proto nw_src nw_dst tp_src tp_dst =
     let e : record { in_port = m.in_port; dl_src = m.dl_src; dl_dst = m.dl_dst; dl_vlan = m.dl_vlan; dl_vlan_pcp = m.dl_vlan_pcp; dl_type = m.dl_type; nw_tos = m.nw_tos; nw_proto = m.nw_proto; nw_src = m.nw_src; nw_dst = m.nw_dst; tp_src = m.tp_src; tp_dst = m.tp_dst } ≡ record { in_port = n.in_port; dl_src = n.dl_src; dl_dst = n.dl_dst; dl_vlan = n.dl_vlan; dl_vlan_pcp = n.dl_vlan_pcp; dl_type = n.dl_type; nw_tos = n.nw_tos; nw_proto = n.nw_proto; nw_src = n.nw_src; nw_dst = n.nw_dst; tp_src = n.tp_src; tp_dst = n.tp_dst } = rw (in_port, dl_src, dl_dst, dl_vlan, dl_vlan_pcp, dl_type, nw_tos, nw_proto, nw_src, nw_dst, tp_src, tp_dst) refl in e
 
--- two matches are one where the derived `==` holds
-pub match_eq-≡ : (m n : Match) → IsTrue (match_eq m n) ↔ (m ≡ n)
-match_eq-≡ m n =
-    let forth : IsTrue (match_eq m n) → m ≡ n = λ all.
+-- two matches are one where each field is
+pub same-≡ : (m n : Match) → IsTrue (same m n) ↔ (m ≡ n)
+unfolding same
+same-≡ m n =
+    let forth : IsTrue (same m n) → m ≡ n = λ all.
     let in_port = and_parts _ _ all in
     let dl_src = and_parts _ _ in_port.1 in
     let dl_dst = and_parts _ _ dl_src.1 in
@@ -316,7 +311,7 @@ match_eq-≡ m n =
     ((addresses_eq m.nw_dst n.nw_dst).0 nw_dst.0)
     ((numbers_eq m.tp_src n.tp_src).0 tp_src.0)
     ((numbers_eq m.tp_dst n.tp_dst).0 tp_src.1) in
-    let back : m ≡ n → IsTrue (match_eq m n) = λ e. rw (
+    let back : m ≡ n → IsTrue (same m n) = λ e. rw (
       (numbers_eq m.in_port n.in_port).1 (ap (λ (r : Match). r.in_port) e),
       (numbers_eq m.dl_src n.dl_src).1 (ap (λ (r : Match). r.dl_src) e),
       (numbers_eq m.dl_dst n.dl_dst).1 (ap (λ (r : Match). r.dl_dst) e),

@@ -1,6 +1,6 @@
 -- One field of a match: what it takes, and the tests of it and of two. A field that is absent is
 -- wildcarded and takes every value (OpenFlow 1.0.0 section 3.4).
-use Rattle.std.specs.Prelude.{◌≡◌, ◌≤◌, ◌<◌, ◌-◌, ◌/◌, ◌%◌, ◌^◌, ◌==◌, ◌&&◌, ℕ, Bool, true, false, Option, Some, None, min, nat_le}
+use Rattle.std.specs.Prelude.{◌≡◌, ◌≤◌, ◌<◌, ◌-◌, ◌/◌, ◌%◌, ◌^◌, ◌==◌, ◌&&◌, ℕ, Bool, true, false, Option, Some, None, min, nat_eq, nat_le}
 
 -- an absent field takes every number, a given one that number alone
 abbrev pub TakesNumber : Option ℕ → ℕ → Type 0
@@ -50,6 +50,10 @@ abbrev pub overlaps_by : {X : Type 0} → (X → X → Bool) → Option X → Op
 overlaps_by eq None other = true
 overlaps_by eq (Some y) None = true
 overlaps_by eq (Some y) (Some x) = eq y x
+
+-- the test whether two addresses with their counts are one
+abbrev pub same_prefix : ℕ × ℕ → ℕ × ℕ → Bool
+same_prefix p q = nat_eq p.0 q.0 && nat_eq p.1 q.1
 
 -- the test whether an address field takes an address
 abbrev pub takes_address : Option (ℕ × ℕ) → ℕ → Bool

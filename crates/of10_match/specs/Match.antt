@@ -1,6 +1,7 @@
 -- The match of a flow entry: which are valid, what a match takes, and how two matches relate.
 use Rattle.std.specs.Prelude.{◌<◌, ◌^◌, ◌&&◌, ◌||◌, ℕ, Bool, true, Option, Some, None, nat_eq, nat_lt, is_none}
-use Rattle.of10_match.specs.Field.{IsValidAddress, IsValidNumber, TakesAddress, TakesNumber, covers_address, covers_by, overlaps_address, overlaps_by, takes_address, takes_by}
+use Rattle.std.specs.Option.{option_eq}
+use Rattle.of10_match.specs.Field.{IsValidAddress, IsValidNumber, TakesAddress, TakesNumber, covers_address, covers_by, overlaps_address, overlaps_by, same_prefix, takes_address, takes_by}
 use Rattle.of10_match.specs.Header.{IsValidHeader}
 use Rattle.of10_match.specs.declared.header.Header.{Header}
 use Rattle.of10_match.specs.declared.matches.Match.{Match}
@@ -92,6 +93,21 @@ overlaps m n = overlaps_by nat_eq m.in_port n.in_port && overlaps_by nat_eq m.dl
     && overlaps_by nat_eq m.nw_tos n.nw_tos && overlaps_by nat_eq m.nw_proto n.nw_proto
     && overlaps_address m.nw_src n.nw_src && overlaps_address m.nw_dst n.nw_dst
     && overlaps_by nat_eq m.tp_src n.tp_src && overlaps_by nat_eq m.tp_dst n.tp_dst
+
+-- the test whether two matches are one, field by field
+unfoldable pub same : Match → Match → Bool
+same m n = option_eq nat_eq m.in_port n.in_port
+    && (option_eq nat_eq m.dl_src n.dl_src
+    && (option_eq nat_eq m.dl_dst n.dl_dst
+    && (option_eq nat_eq m.dl_vlan n.dl_vlan
+    && (option_eq nat_eq m.dl_vlan_pcp n.dl_vlan_pcp
+    && (option_eq nat_eq m.dl_type n.dl_type
+    && (option_eq nat_eq m.nw_tos n.nw_tos
+    && (option_eq nat_eq m.nw_proto n.nw_proto
+    && (option_eq same_prefix m.nw_src n.nw_src
+    && (option_eq same_prefix m.nw_dst n.nw_dst
+    && (option_eq nat_eq m.tp_src n.tp_src
+    && option_eq nat_eq m.tp_dst n.tp_dst))))))))))
 
 -- an address field compares fewer than 32 bits
 abbrev pub is_open : Option (ℕ × ℕ) → Bool

@@ -4,7 +4,7 @@ ghost use Rattle.std.specs.Prelude.{◌≡◌, ◌<◌, ◌↔◌, ℕ, List, Is
 ghost use Rattle.std.specs.Cmp.{IsTotalOrder};
 ghost use Rattle.std.specs.declared.cmp.Ordering.TheVariants.{Equal};
 ghost use Rattle.of10_match.specs.Header.{IsValidHeader, header_cmp};
-ghost use Rattle.of10_match.specs.Match.{Covers, IsValidMatch, Overlaps, Takes, any_match, covers, has_wildcard, overlaps, takes};
+ghost use Rattle.of10_match.specs.Match.{Covers, IsValidMatch, Overlaps, Takes, any_match, covers, has_wildcard, overlaps, same, takes};
 ghost use Rattle.of10_match.specs.Packet.{IsValidPacket, packet_of, record_of};
 ghost use Rattle.of10_match.specs.Wire.{match_bytes, match_of};
 ghost use Rattle.of10_match.specs.declared.header.Header.{Header};
@@ -50,6 +50,17 @@ pub fn tests_mean_what_matches_take()
     ensures takes { (m : Match) (port : ℕ) (h : Header) → IsTrue (takes m port h) ↔ Takes m port h }
     ensures covers { (m n : Match) → IsValidMatch m → IsValidMatch n → IsTrue (covers m n) ↔ Covers m n }
     ensures overlaps { (m n : Match) → IsValidMatch m → IsValidMatch n → IsTrue (overlaps m n) ↔ Overlaps m n }
+{}
+
+/// Two matches are one exactly where each field is.
+pub fn same_matches_are_one()
+    ensures { (m n : Match) → IsTrue (same m n) ↔ (m ≡ n) }
+{}
+
+/// A valid match takes all that it takes, and something.
+pub fn a_match_covers_itself()
+    ensures covers { (m : Match) → IsValidMatch m → IsTrue (covers m m) }
+    ensures overlaps { (m : Match) → IsValidMatch m → IsTrue (overlaps m m) }
 {}
 
 /// The match with every field wildcarded takes everything.

@@ -41,7 +41,7 @@ pub struct Match {
 
 impl Match {
     ghost use Rattle.of10_match.specs.Field.{IsValidNumber};
-    ghost use Rattle.of10_match.specs.Match.{any_match, covers, has_wildcard, overlaps, takes, Covers, IsValidMatch, Overlaps, Takes};
+    ghost use Rattle.of10_match.specs.Match.{any_match, covers, has_wildcard, overlaps, same, takes, Covers, IsValidMatch, Overlaps, Takes};
 
     /// The match with every field wildcarded.
     pub fn any() -> Match
@@ -187,8 +187,10 @@ impl Match {
     }
 
     /// Whether the two matches are one.
+    #[tactic(auto, unfolding(crate::specs::Match::same))]
     pub fn same(&self, other: &Match) -> bool
-        ensures { IsTrue result ↔ (self.now ≡ other.now) }
+        ensures test { result ≡ same self.now other.now }
+        ensures equal { IsTrue result ↔ (self.now ≡ other.now) }
     {
         self == other
     }
