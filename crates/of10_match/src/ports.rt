@@ -18,3 +18,22 @@ pub const OFPP_CONTROLLER: u16 = 0xfffd;
 pub const OFPP_LOCAL: u16 = 0xfffe;
 /// No port.
 pub const OFPP_NONE: u16 = 0xffff;
+
+// The numbers that the standard gives, once more: a constant that is another number is refused.
+const _: () = prove!(OFPP_MAX == 0xff00);
+
+const _: () = prove!(OFPP_IN_PORT == 0xfff8);
+
+const _: () = prove!(OFPP_TABLE == 0xfff9);
+
+const _: () = prove!(OFPP_NORMAL == 0xfffa);
+
+const _: () = prove!(OFPP_FLOOD == 0xfffb);
+
+const _: () = prove!(OFPP_ALL == 0xfffc);
+
+const _: () = prove!(OFPP_CONTROLLER == 0xfffd);
+
+const _: () = prove!(OFPP_LOCAL == 0xfffe);
+
+const _: () = prove!(OFPP_NONE == 0xffff);

@@ -38,3 +38,42 @@ pub const OFPFW_DL_VLAN_PCP: u32 = 1 << 20;
 pub const OFPFW_NW_TOS: u32 = 1 << 21;
 /// Every bit that stands for something, each count at its highest.
 pub const OFPFW_ALL: u32 = (1 << 22) - 1;
+
+// The numbers that the standard gives, once more: a constant that is another number is refused.
+const _: () = prove!(OFPFW_IN_PORT == 0x1);
+
+const _: () = prove!(OFPFW_DL_VLAN == 0x2);
+
+const _: () = prove!(OFPFW_DL_SRC == 0x4);
+
+const _: () = prove!(OFPFW_DL_DST == 0x8);
+
+const _: () = prove!(OFPFW_DL_TYPE == 0x10);
+
+const _: () = prove!(OFPFW_NW_PROTO == 0x20);
+
+const _: () = prove!(OFPFW_TP_SRC == 0x40);
+
+const _: () = prove!(OFPFW_TP_DST == 0x80);
+
+const _: () = prove!(OFPFW_NW_SRC_SHIFT == 8);
+
+const _: () = prove!(OFPFW_NW_SRC_BITS == 6);
+
+const _: () = prove!(OFPFW_NW_SRC_MASK == 0x3f00);
+
+const _: () = prove!(OFPFW_NW_SRC_ALL == 0x2000);
+
+const _: () = prove!(OFPFW_NW_DST_SHIFT == 14);
+
+const _: () = prove!(OFPFW_NW_DST_BITS == 6);
+
+const _: () = prove!(OFPFW_NW_DST_MASK == 0xf_c000);
+
+const _: () = prove!(OFPFW_NW_DST_ALL == 0x8_0000);
+
+const _: () = prove!(OFPFW_DL_VLAN_PCP == 0x10_0000);
+
+const _: () = prove!(OFPFW_NW_TOS == 0x20_0000);
+
+const _: () = prove!(OFPFW_ALL == 0x3f_ffff);
