@@ -7,6 +7,7 @@ pub mod laws;
 mod matches;
 mod packet;
 mod ports;
+mod show;
 mod wildcards;
 mod wire;
 
@@ -18,6 +19,7 @@ pub use ports::{
     OFPP_ALL, OFPP_CONTROLLER, OFPP_FLOOD, OFPP_IN_PORT, OFPP_LOCAL, OFPP_MAX, OFPP_NONE,
     OFPP_NORMAL, OFPP_TABLE,
 };
+pub use show::{EthernetAddress, Port};
 pub use wildcards::{
     OFPFW_ALL, OFPFW_DL_DST, OFPFW_DL_SRC, OFPFW_DL_TYPE, OFPFW_DL_VLAN, OFPFW_DL_VLAN_PCP,
     OFPFW_IN_PORT, OFPFW_NW_DST_ALL, OFPFW_NW_DST_BITS, OFPFW_NW_DST_MASK, OFPFW_NW_DST_SHIFT,
