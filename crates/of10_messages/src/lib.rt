@@ -31,7 +31,7 @@ pub use lengths::encoded_len;
 pub use message::{Features, FlowMod, Message};
 pub use notice::Notice;
 pub use port::{PortDesc, PortDescs};
-pub use reading::decode;
+pub use reading::{decode, read_action};
 pub use refusals::refusal;
 pub use values::{
     OFPFC_ADD, OFPFC_DELETE, OFPFC_DELETE_STRICT, OFPFC_MODIFY, OFPFC_MODIFY_STRICT,

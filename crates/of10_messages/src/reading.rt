@@ -22,7 +22,7 @@ use wire_bytes::{front_of, rest_at, u16_at, u32_at, u48_at, u64_at};
 
 /// The action at the start of some bytes.
 #[tactic(auto, unfolding(crate::specs::Reading::action_of))]
-fn action_of(alloc: Global, bytes: &[u8]) -> Result<Action, AllocError>
+pub fn read_action(alloc: Global, bytes: &[u8]) -> Result<Action, AllocError>
     requires { IsGoodAction bytes.now }
     ensures { IfOk result (λ a. a ≡ action_of bytes.now) }
 {
@@ -59,7 +59,7 @@ fn actions_of(alloc: Global, bytes: &[u8]) -> Result<Actions10, AllocError>
     let mut at = 0;
     while at < bytes.len() {
         let rest = rest_at(bytes, at);
-        actions.push(action_of(alloc, rest)?)?;
+        actions.push(read_action(alloc, rest)?)?;
         at += usize::from(u16_at(rest, 2));
     }
     Ok(actions)
