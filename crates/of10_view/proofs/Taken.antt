@@ -1,7 +1,7 @@
 -- Actions that are read from their own bytes alone.
-use Rattle.std.proofs.Common.{◌≡◌, ◌<◌, ◌≤◌, ◌==◌, ◌∙◌, ℕ, zero, suc, Bool, true, false, List, [], ◌∷◌, length, take, drop, map, slice_index, None, if◌then◌else◌, refl, sym, ap, ap₂, arith, length-drop, subst}
+use Rattle.std.proofs.Common.{◌≡◌, ◌<◌, ◌≤◌, ◌%◌, ◌==◌, ◌∙◌, ℕ, zero, suc, Bool, true, false, List, [], ◌∷◌, length, take, drop, map, slice_index, None, if◌then◌else◌, refl, sym, ap, ap₂, arith, length-drop, subst}
 use Rattle.std.proofs.lemmas.Bool.{eqb-true}
-use Rattle.std.proofs.lemmas.List.{get_or-take}
+use Rattle.std.proofs.lemmas.List.{get_or-take, length-take-le}
 use Rattle.std.proofs.lemmas.List.Elements.{All-cons, All-head, All-nil, All-tail}
 use Rattle.std.specs.Prelude.{All}
 use Rattle.byteorder.specs.Endian.{big_from}
@@ -54,6 +54,26 @@ taken rest good =
     let n = told_length rest in
     let kind : big_from 0 2 (take n rest) ≡ big_from 0 2 rest = big_from-take 0 2 n rest (omega (arith, good.least)) in
     sym (ap (λ (k : ℕ). action_of_kind k (take n rest)) kind ∙ of_kind (big_from 0 2 rest) n rest refl good.least good.fixed)
+
+-- its own bytes alone are as good, of the same type, and all that they say
+pub record IsTaken (rest : List ℕ) (n : ℕ) : Type 0 where
+  pub good : IsGoodAction (take n rest)
+  pub kind : big_from 0 2 (take n rest) ≡ big_from 0 2 rest
+  pub told : told_length (take n rest) ≡ n
+
+pub good_taken : (rest : List ℕ) (n : ℕ) → n ≡ told_length rest → IsGoodAction rest → IsTaken rest n
+good_taken rest n is good =
+    let kind : big_from 0 2 (take n rest) ≡ big_from 0 2 rest = big_from-take 0 2 n rest (omega (arith, good.least)) in
+    let told : told_length (take n rest) ≡ n = big_from-take 2 2 n rest (omega (arith, good.least)) ∙ sym is in
+    let size : length (take n rest) ≡ n = length-take-le n rest (omega (arith, good.room)) in
+    let fixed : big_from 0 2 (take n rest) ≤ 11 → told_length (take n rest) ≡ fixed_length (big_from 0 2 (take n rest)) = λ low.
+    told ∙ is ∙ good.fixed (subst (λ (k : ℕ). k ≤ 11) kind low) ∙ ap fixed_length (sym kind) in
+    let padded : told_length (take n rest) % 8 ≡ 0 = ap (λ (k : ℕ). k % 8) (told ∙ is) ∙ good.padded in
+    record {
+      good = record { least = omega (arith, told, good.least); room = omega (arith, told, size); padded = padded; fixed = fixed };
+      kind = kind;
+      told = told;
+    }
 
 -- the law of of10_messages on actions that stand one after the other
 pub record AreInOrder : Type 0 where

@@ -1,10 +1,14 @@
 //! The actions of a message in place.
 
-ghost use Rattle.std.specs.Prelude.{◌≡◌, ◌<◌, ◌≤◌, ◌∷◌, ℕ, List, None, drop, length};
-ghost use Rattle.of10_messages.specs.Refusal.{first_bad, told_length};
+ghost use Rattle.std.specs.Prelude.{◌≡◌, ◌<◌, ◌≤◌, ◌∷◌, ℕ, List, None, IfOk, drop, length, take};
+ghost use Rattle.byteorder.specs.Endian.{big_from};
+ghost use Rattle.of10_messages.specs.Reading.{action_of};
+ghost use Rattle.of10_messages.specs.Refusal.{IsGoodAction, first_bad, told_length};
 ghost use Rattle.of10_view.specs.Parts.{action_part, action_parts};
 
 use of10_messages::laws::actions_stand_one_after_the_other;
+use of10_messages::{Action, read_action};
+use std::alloc::{AllocError, Global};
 use std::marker::Model;
 use wire_bytes::{front_of, rest_at, u16_at};
 
@@ -15,7 +19,18 @@ pub struct ActionView<'a> {
     pub kind: u16,
     /// All bytes of the action: its type, its length and its body.
     pub bytes: &'a [u8],
-    ghost least: { 8 ≤ length bytes.now },
+    ghost good: { IsGoodAction bytes.now },
+    ghost typed: { kind ≡ big_from 0 2 bytes.now },
+    ghost whole: { told_length bytes.now ≡ length bytes.now },
+}
+
+impl<'a> ActionView<'a> {
+    /// The action as a value. Only one of a type above 10 takes memory.
+    pub fn action(&self, alloc: Global) -> Result<Action, AllocError>
+        ensures { IfOk result (λ a. a ≡ action_of self.now.bytes.now) }
+    {
+        read_action(alloc, self.bytes)
+    }
 }
 
 /// The actions of a message, in order.
@@ -50,6 +65,9 @@ fn first_len(bytes: &[u8]) -> usize
     ensures least { 8 ≤ result }
     ensures room { result ≤ length bytes.now }
     ensures others { first_bad (drop result bytes.now) ≡ None }
+    ensures good { IsGoodAction (take result bytes.now) }
+    ensures kind { big_from 0 2 (take result bytes.now) ≡ big_from 0 2 bytes.now }
+    ensures whole { told_length (take result bytes.now) ≡ result }
     ensures parts { action_parts bytes.now ≡ action_part bytes.now ∷ action_parts (drop result bytes.now) }
 {
     // A law does nothing at run time: its clauses are facts for the proof.

@@ -1,6 +1,6 @@
 //! Messages as they stand on the wire, the parts that their views lend, and bytes of which there is no view.
 use crate::*;
-use of10_messages::{BadMessage, decode};
+use of10_messages::{Action, BadMessage, decode};
 use std::test::Fail;
 
 // What a learning switch is sent for a web server's answer: ADD, all twelve fields, output to port 1.
@@ -48,6 +48,10 @@ fn a_flow_mod(rt: HostRuntime) -> Result<(), Fail> {
         Some(output) => {
             assert_eq!(rt; output.kind, 0);
             assert_eq!(rt; output.bytes, &FLOW_MOD[72..]);
+            match output.action(rt.alloc())? {
+                Action::Output { port, max_len } => assert_eq!(rt; (port, max_len), (1, 0)),
+                _ => return Err(Fail::from("it is an output")),
+            }
         }
         None => return Err(Fail::from("an action is there")),
     }
