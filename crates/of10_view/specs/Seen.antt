@@ -19,6 +19,10 @@ seen (next.Broken bad) = Broken bad
 abbrev pub held : Cutter → List ℕ
 held cutter = drop cutter.taken cutter.bytes.items
 
+-- how many bytes are in memory, held or taken out
+abbrev pub kept : Cutter → ℕ
+kept cutter = length cutter.bytes.items
+
 -- a decision on some bytes, by the bytes of its message
 abbrev pub decided : List ℕ → Step → Coming
 decided bytes (step.Whole len) = Whole (take len bytes)

@@ -1,6 +1,6 @@
 //! Messages out of a stream that comes in pieces.
 
-ghost use Rattle.std.specs.Prelude.{◌≡◌, ◌≤◌, ◌++◌, [], drop, length, take, OnErr, OnOk};
+ghost use Rattle.std.specs.Prelude.{◌≡◌, ◌≤◌, ◌+◌, ◌*◌, ◌++◌, [], drop, length, take, OnErr, OnOk};
 ghost use Rattle.std.specs.Borrow.{sem};
 ghost use Rattle.of10_view.specs.Stream.{left_of, next_of};
 
@@ -85,7 +85,7 @@ pub struct Cutter {
 
 impl Cutter {
     ghost use Rattle.of10_view.specs.Lending.{EndsAs};
-    ghost use Rattle.of10_view.specs.Seen.{IsStep, held, seen};
+    ghost use Rattle.of10_view.specs.Seen.{IsStep, held, kept, seen};
 
     /// A cutter that holds nothing.
     pub fn new(alloc: Global) -> Cutter
@@ -97,10 +97,11 @@ impl Cutter {
         }
     }
 
-    /// Adds the next piece of the stream.
+    /// Adds the next piece of the stream. What was taken out is let go once it is more than what is held.
     pub fn feed(&mut self, piece: &[u8]) -> Result<(), AllocError>
         ensures ok { OnOk result (held self.new ≡ held self.old ++ piece.now) }
         ensures err { OnErr result (held self.new ≡ held self.old) }
+        ensures kept { kept self.new ≤ 2 * length (held self.old) + length piece.now }
     {
         // The work is in proportion to what was taken out, so on the whole to what was fed.
         if self.taken > self.bytes.len() - self.taken {
