@@ -1,6 +1,7 @@
 //! OpenFlow 1.0.0: the messages between switches and controllers, and their bytes in both directions.
 #![tactic(auto)]
 
+mod about;
 mod action;
 mod bad;
 mod kinds;

@@ -4,7 +4,7 @@ ghost use Rattle.std.specs.Prelude.{◌≡◌, ◌+◌, ◌∷◌, ◌<◌, ◌^
 ghost use Rattle.std.specs.List.{flat_map};
 ghost use Rattle.byteorder.specs.Endian.{big_bytes};
 ghost use Rattle.of10_messages.specs.Valid.{HasValidBody, IsValidAction, IsValidFeatures, IsValidFlowMod, IsValidMessage, IsValidPort};
-ghost use Rattle.of10_messages.specs.Wire.{action_body, action_bytes, actions_bytes, body_bytes, canon_bytes, features_bytes, features_fields, flow_mod_bytes, flow_mod_fields, message_kind, message_xid, port_bytes, port_head, port_tail, removal_fields};
+ghost use Rattle.of10_messages.specs.Wire.{action_body, action_bytes, actions_bytes, body_bytes, canon_bytes, features_bytes, features_fields, flow_mod_bytes, flow_mod_fields, port_bytes, port_head, port_tail, removal_fields};
 ghost use Rattle.of10_match.specs.Match.{IsValidMatch};
 ghost use Rattle.of10_match.specs.Wire.{match_bytes};
 
@@ -238,56 +238,6 @@ fn put_flow_mod(out: &mut Vec<u8>, mods: &FlowMod) -> Result<(), AllocError>
     Ok(())
 }
 
-/// The type of a message.
-fn kind_of(message: &Message) -> u8
-    ensures { result ≡ message_kind message.now }
-{
-    match message {
-        Message::Hello { .. } => OFPT_HELLO,
-        Message::Error { .. } => OFPT_ERROR,
-        Message::EchoRequest { .. } => OFPT_ECHO_REQUEST,
-        Message::EchoReply { .. } => OFPT_ECHO_REPLY,
-        Message::FeaturesRequest { .. } => OFPT_FEATURES_REQUEST,
-        Message::FeaturesReply { .. } => OFPT_FEATURES_REPLY,
-        Message::GetConfigRequest { .. } => OFPT_GET_CONFIG_REQUEST,
-        Message::GetConfigReply { .. } => OFPT_GET_CONFIG_REPLY,
-        Message::SetConfig { .. } => OFPT_SET_CONFIG,
-        Message::PacketIn { .. } => OFPT_PACKET_IN,
-        Message::FlowRemoved { .. } => OFPT_FLOW_REMOVED,
-        Message::PortStatus { .. } => OFPT_PORT_STATUS,
-        Message::PacketOut { .. } => OFPT_PACKET_OUT,
-        Message::FlowMod { .. } => OFPT_FLOW_MOD,
-        Message::BarrierRequest { .. } => OFPT_BARRIER_REQUEST,
-        Message::BarrierReply { .. } => OFPT_BARRIER_REPLY,
-        Message::Other { kind, .. } => *kind,
-    }
-}
-
-/// The number by which an answer names the message.
-fn xid_of(message: &Message) -> u32
-    ensures { result ≡ message_xid message.now }
-{
-    match message {
-        Message::Hello { xid }
-        | Message::Error { xid, .. }
-        | Message::EchoRequest { xid, .. }
-        | Message::EchoReply { xid, .. }
-        | Message::FeaturesRequest { xid }
-        | Message::FeaturesReply { xid, .. }
-        | Message::GetConfigRequest { xid }
-        | Message::GetConfigReply { xid, .. }
-        | Message::SetConfig { xid, .. }
-        | Message::PacketIn { xid, .. }
-        | Message::FlowRemoved { xid, .. }
-        | Message::PortStatus { xid, .. }
-        | Message::PacketOut { xid, .. }
-        | Message::FlowMod { xid, .. }
-        | Message::BarrierRequest { xid }
-        | Message::BarrierReply { xid }
-        | Message::Other { xid, .. } => *xid,
-    }
-}
-
 /// The fields of a FLOW_REMOVED after its match.
 #[tactic(auto, unfolding(crate::specs::Wire::removal_fields))]
 fn removal_fields(
@@ -425,9 +375,9 @@ pub fn encode(alloc: Global, message: &Message) -> Result<Vec<u8>, AllocError>
 {
     let len = encoded_len(message) as u16;
     let mut out = Vec::with_capacity(alloc, usize::from(len))?;
-    out.extend_from_slice(&[OFP_VERSION, kind_of(message)])?;
+    out.extend_from_slice(&[OFP_VERSION, message.kind()])?;
     put_u16(&mut out, len)?;
-    put_u32(&mut out, xid_of(message))?;
+    put_u32(&mut out, message.xid())?;
     put_body(&mut out, message)?;
     Ok(out)
 }
