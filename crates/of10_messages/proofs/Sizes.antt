@@ -4,7 +4,10 @@ use Rattle.std.specs.Prelude.{All}
 use Rattle.std.specs.List.{flat_map}
 use Rattle.std.proofs.lemmas.List.Folds.{length-flat_map-take}
 use Rattle.of10_messages.specs.declared.action.Action.{Action}
+use Rattle.of10_messages.specs.declared.action.Action.TheVariants as action
+use Rattle.of10_messages.specs.Lengths.{action_len, actions_len}
 use Rattle.std.proofs.lemmas.List.Elements.{All-head, All-tail}
+use Rattle.std.proofs.lemmas.List.Sums.{sum_by-cons}
 use Rattle.of10_match.specs.Wire.{match_bytes}
 use Rattle.of10_match.specs.declared.matches.Match.{Match}
 use Rattle.of10_messages.specs.Valid.{IsValidPort}
@@ -43,3 +46,26 @@ action_fits actions i a within is fits =
     let part = length-flat_map-take action_bytes actions i a within in
     let same : length (action_bytes a) ≡ length (action_bytes (get_or actions i a)) = ap (λ (x : Action). length (action_bytes x)) is in
     omega (arith, part, same, fits)
+
+length_action : (a : Action) → length (action_bytes a) ≡ action_len a
+unfolding action_bytes
+length_action (action.Output port max_len) = refl
+length_action (action.SetVlanVid vlan) = refl
+length_action (action.SetVlanPcp pcp) = refl
+length_action action.StripVlan = refl
+length_action (action.SetDlSrc address) = refl
+length_action (action.SetDlDst address) = refl
+length_action (action.SetNwSrc address) = refl
+length_action (action.SetNwDst address) = refl
+length_action (action.SetNwTos tos) = refl
+length_action (action.SetTpSrc port) = refl
+length_action (action.SetTpDst port) = refl
+length_action (action.Other kind body) = simp length-append (omega arith)
+
+pub length_actions : (actions : List Action) → length (actions_bytes actions) ≡ actions_len actions
+length_actions [] = refl
+length_actions (a ∷ actions) =
+    let one = length_action a in
+    let rest = length_actions actions in
+    let sum = sum_by-cons action_len a actions in
+    simp length-append (omega (arith, one, rest, sum))

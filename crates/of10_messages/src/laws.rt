@@ -2,10 +2,12 @@
 
 ghost use Rattle.std.specs.Prelude.{◌≡◌, ◌≢◌, ◌∷◌, ◌+◌, ◌<◌, ◌≤◌, ◌++◌, ℕ, List, [], None, Some, false, true, drop, length, slice_index};
 ghost use Rattle.byteorder.specs.Endian.{big_from};
+ghost use Rattle.of10_messages.specs.Lengths.{actions_len};
 ghost use Rattle.of10_messages.specs.Reading.{Reads};
 ghost use Rattle.of10_messages.specs.Refusal.{IsAccepted, IsGoodAction, action_starts, first_bad, is_bad_action, least_length, out_actions, refusal_of, told_length};
 ghost use Rattle.of10_messages.specs.Valid.{IsValidMessage};
-ghost use Rattle.of10_messages.specs.Wire.{canon_bytes};
+ghost use Rattle.of10_messages.specs.Wire.{actions_bytes, canon_bytes};
+ghost use Rattle.of10_messages.specs.declared.action.Action.{Action};
 ghost use Rattle.of10_messages.specs.declared.bad.BadMessage.TheVariants.{OutOfMemory};
 ghost use Rattle.of10_messages.specs.declared.message.Message.{Message};
 
@@ -63,4 +65,9 @@ pub fn actions_stand_one_after_the_other()
     ensures starts { (bytes : List ℕ) → 0 < length bytes → first_bad bytes ≡ None
         → action_starts 0 bytes ≡ bytes ∷ action_starts 0 (drop (told_length bytes) bytes) }
     ensures others { (bytes : List ℕ) → 0 < length bytes → first_bad bytes ≡ None → first_bad (drop (told_length bytes) bytes) ≡ None }
+{}
+
+/// Actions have as many bytes as the sum of the lengths of their kinds.
+pub fn lengths_of_actions()
+    ensures { (actions : List Action) → length (actions_bytes actions) ≡ actions_len actions }
 {}

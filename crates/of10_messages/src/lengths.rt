@@ -1,10 +1,12 @@
 //! The lengths of encodings.
 
 ghost use Rattle.std.specs.Prelude.{◌≡◌, ◌+◌, ◌*◌, ◌-◌, ◌^◌, length, min};
+ghost use Rattle.of10_messages.specs.Lengths.{actions_len};
 ghost use Rattle.of10_messages.specs.Valid.{HasValidBody};
 ghost use Rattle.of10_messages.specs.Wire.{action_body, action_bytes, actions_bytes, body_bytes, canon_bytes};
 
 use crate::action::Action;
+use crate::laws::lengths_of_actions;
 use crate::message::Message;
 
 /// How many bytes the encoding of an action has after its type and length.
@@ -18,11 +20,13 @@ fn action_body_len(action: &Action) -> u64
     }
 }
 
-/// How many bytes the encodings of actions have together.
+/// How many bytes the encodings of actions have together, at most 2^64 - 1.
 #[tactic(auto, unfolding(crate::specs::Wire::action_bytes))]
-fn actions_len(actions: &[Action]) -> u64
-    ensures { result ≡ min (length (actions_bytes actions.now)) (2 ^ 64 - 1) }
+pub fn actions_len(actions: &[Action]) -> u64
+    ensures bytes { result ≡ min (length (actions_bytes actions.now)) (2 ^ 64 - 1) }
+    ensures sum { result ≡ min (actions_len actions.now) (2 ^ 64 - 1) }
 {
+    lengths_of_actions();
     let mut total: u64 = 0;
     for action in actions {
         total = total.saturating_add(action_body_len(action).saturating_add(4));

@@ -28,7 +28,7 @@ pub use kinds::{
     OFPT_QUEUE_GET_CONFIG_REQUEST, OFPT_SET_CONFIG, OFPT_STATS_REPLY, OFPT_STATS_REQUEST,
     OFPT_VENDOR,
 };
-pub use lengths::encoded_len;
+pub use lengths::{actions_len, encoded_len};
 pub use message::{Features, FlowMod, Message};
 pub use notice::Notice;
 pub use port::{PortDesc, PortDescs};

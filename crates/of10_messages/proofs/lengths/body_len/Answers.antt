@@ -20,5 +20,5 @@ returns-in-FeaturesReply c =
 
 pub returns-in-FlowMod : goal.returns-in-FlowMod
 returns-in-FlowMod c =
-    let actions = rw c.as_slice.ensures at c.actions_len.ensures in
+    let actions = rw c.as_slice.ensures at c.actions_len.ensures.bytes in
     rw c.in-FlowMod.is (omega (arith, actions, length_flow_mod c.in-FlowMod.mods))
