@@ -4,6 +4,7 @@
 mod about;
 mod action;
 mod bad;
+mod build;
 mod kinds;
 pub mod laws;
 mod lengths;
@@ -18,6 +19,7 @@ mod writing;
 
 pub use action::{Action, Actions10, Bytes};
 pub use bad::BadMessage;
+pub use build::{no_actions, one_action};
 pub use kinds::{
     OFP_VERSION, OFPAT_ENQUEUE, OFPAT_OUTPUT, OFPAT_SET_DL_DST, OFPAT_SET_DL_SRC, OFPAT_SET_NW_DST,
     OFPAT_SET_NW_SRC, OFPAT_SET_NW_TOS, OFPAT_SET_TP_DST, OFPAT_SET_TP_SRC, OFPAT_SET_VLAN_PCP,

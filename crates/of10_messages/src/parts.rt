@@ -2,6 +2,7 @@
 
 ghost use Rattle.std.specs.Prelude.{◌≡◌, ◌+◌, ◌≤◌, IfOk, drop, length, take};
 ghost use Rattle.of10_match.specs.Wire.{match_of};
+ghost use Rattle.of10_messages.specs.Valid.{AreBytes};
 
 use listed::Listed;
 use of10_match::Match;
@@ -26,3 +27,8 @@ pub(crate) fn match_at(bytes: &[u8], place: usize) -> Match
         None => unreachable!(),
     }
 }
+
+/// Bytes are bytes. A function that does nothing: where a message is built of them, its clause is a fact for the proof.
+pub(crate) fn bytes_are_bytes(bytes: &[u8])
+    ensures { AreBytes bytes.now }
+{}
