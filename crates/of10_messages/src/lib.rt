@@ -31,6 +31,7 @@ pub use kinds::{
     OFPT_VENDOR,
 };
 pub use lengths::{actions_len, encoded_len};
+pub use listed::{Listed, Plain};
 pub use message::{Features, FlowMod, Message};
 pub use notice::Notice;
 pub use port::{PortDesc, PortDescs};
