@@ -1,10 +1,9 @@
 //! Messages as they stand on the wire, and bytes that are none.
-ghost use Rattle.std.specs.Prelude.{IfOk};
+ghost use Rattle.std.specs.Prelude.{◌≡◌, IfOk};
 ghost use Rattle.of10_messages.specs.Valid.{IsValidMessage};
 
 use super::*;
-use listed::{Listed, Plain};
-use of10_match::{Match, OFPP_CONTROLLER, OFPP_NONE};
+use of10_match::{Match, OFPP_CONTROLLER, OFPP_FLOOD, OFPP_NONE};
 use std::alloc::Global;
 use std::test::Fail;
 
@@ -95,30 +94,26 @@ fn what_says_nothing_is_dropped(rt: HostRuntime) -> Result<(), Fail> {
     Ok(())
 }
 
-fn some_bytes(alloc: Global, bytes: &[u8]) -> Result<Bytes, Fail> {
+fn some_bytes(alloc: Global, bytes: &[u8]) -> Result<Bytes, Fail>
+    ensures { IfOk result (λ copy. copy ≡ bytes.now) }
+{
     Ok(Listed::of(Vec::from_slice(alloc, bytes)?))
 }
 
 // The messages of OTHERS whose fields are numbers alone, and those with data.
 fn short_messages(alloc: Global) -> Result<Vec<Message>, Fail> {
-    let mut all = vec![in alloc; Message::Hello { xid: 1 }]?;
+    let mut all = vec![in alloc; Message::hello(1)]?;
     all.push(Message::Error {
         xid: 2,
         kind: 1,
         code: 6,
         content: some_bytes(alloc, b"abc")?,
     })?;
-    all.push(Message::EchoRequest {
-        xid: 3,
-        content: some_bytes(alloc, b"abc")?,
-    })?;
-    all.push(Message::EchoReply {
-        xid: 4,
-        content: Listed::new(alloc),
-    })?;
+    all.push(Message::echo_request(3, some_bytes(alloc, b"abc")?))?;
+    all.push(Message::echo_reply(4, Listed::new(alloc)))?;
     all.push(other(alloc, 5, 4, b"\x00\x00\x23\x20")?)?;
-    all.push(Message::FeaturesRequest { xid: 6 })?;
-    all.push(Message::GetConfigRequest { xid: 7 })?;
+    all.push(Message::features_request(6))?;
+    all.push(Message::get_config_request(7))?;
     all.push(Message::GetConfigReply {
         xid: 8,
         flags: 1,
@@ -210,8 +205,8 @@ fn others(alloc: Global) -> Result<Vec<Message>, Fail> {
     all.push(other(alloc, 14, 15, b"a")?)?;
     all.push(other(alloc, 15, 16, b"\x00\x00\x00\x00")?)?;
     all.push(other(alloc, 16, 17, b"")?)?;
-    all.push(Message::BarrierRequest { xid: 17 })?;
-    all.push(Message::BarrierReply { xid: 18 })?;
+    all.push(Message::barrier_request(17))?;
+    all.push(Message::barrier_reply(18))?;
     all.push(other(alloc, 19, 20, b"\x00\x01\x00\x00")?)?;
     all.push(other(alloc, 20, 21, b"\x00\x01\x00\x00\x00\x00\x00\x00")?)?;
     Ok(all)
@@ -304,36 +299,23 @@ fn texts_of_refusals(rt: HostRuntime) -> Result<(), Fail> {
 #[test]
 fn a_flow_mod(rt: HostRuntime) -> Result<(), Fail> {
     let alloc = rt.alloc();
-    let output = Action::Output {
-        port: 1,
-        max_len: 0,
+    let matches = Match {
+        in_port: Some(2),
+        dl_src: Some(2),
+        dl_dst: Some(1),
+        dl_vlan: Some(65535),
+        dl_vlan_pcp: Some(0),
+        dl_type: Some(2048),
+        nw_tos: Some(0),
+        nw_proto: Some(6),
+        nw_src: Some((20, 32)),
+        nw_dst: Some((10, 32)),
+        tp_src: Some(80),
+        tp_dst: Some(1000),
     };
-    let mods = FlowMod {
-        matches: Match {
-            in_port: Some(2),
-            dl_src: Some(2),
-            dl_dst: Some(1),
-            dl_vlan: Some(65535),
-            dl_vlan_pcp: Some(0),
-            dl_type: Some(2048),
-            nw_tos: Some(0),
-            nw_proto: Some(6),
-            nw_src: Some((20, 32)),
-            nw_dst: Some((10, 32)),
-            tp_src: Some(80),
-            tp_dst: Some(1000),
-        },
-        cookie: 1,
-        command: 0,
-        idle_timeout: 0,
-        hard_timeout: 0,
-        priority: 32768,
-        buffer_id: 0xffff_ffff,
-        out_port: OFPP_NONE,
-        flags: 0,
-        actions: Listed::of(vec![in alloc; output]?),
-    };
-    let want = Message::FlowMod { xid: 4, mods };
+    let actions = one_action(alloc, Action::output(1))?;
+    let mods = FlowMod::add(matches, 32768, actions).with_cookie(1);
+    let want = Message::flow_mod(4, mods);
     assert!(rt; read(alloc, FLOW_MOD)?.same(&want));
     Ok(())
 }
@@ -341,14 +323,8 @@ fn a_flow_mod(rt: HostRuntime) -> Result<(), Fail> {
 #[test]
 fn a_packet_in(rt: HostRuntime) -> Result<(), Fail> {
     let alloc = rt.alloc();
-    let want = Message::PacketIn {
-        xid: 2,
-        buffer_id: 0xffff_ffff,
-        total_len: 36,
-        in_port: 1,
-        reason: 0,
-        content: Listed::of(Vec::from_slice(alloc, &PACKET_IN[18..])?),
-    };
+    let content = some_bytes(alloc, &PACKET_IN[18..])?;
+    let want = Message::packet_in(2, 1, OFPR_NO_MATCH, content);
     assert!(rt; read(alloc, PACKET_IN)?.same(&want));
     Ok(())
 }
@@ -572,5 +548,98 @@ fn lengths_that_a_type_has_not(rt: HostRuntime) -> Result<(), Fail> {
             );
         }
     }
+    Ok(())
+}
+
+fn hello() -> Message
+    ensures { IsValidMessage result }
+{
+    Message::hello(1)
+}
+
+fn drop_entry(alloc: Global) -> Result<Message, Fail>
+    ensures { IfOk result (λ m. IsValidMessage m) }
+{
+    let mods = FlowMod::add(Match::any(), 100, no_actions(alloc));
+    Ok(Message::flow_mod(2, mods))
+}
+
+fn forward_entry(alloc: Global) -> Result<Message, Fail>
+    ensures { IfOk result (λ m. IsValidMessage m) }
+{
+    let actions = one_action(alloc, Action::output(2))?;
+    let mods = FlowMod::add(Match::any(), 100, actions).with_idle_timeout(5);
+    Ok(Message::flow_mod(3, mods))
+}
+
+fn flood(alloc: Global) -> Result<Message, Fail>
+    ensures { IfOk result (λ m. IsValidMessage m) }
+{
+    let actions = one_action(alloc, Action::output(OFPP_FLOOD))?;
+    let content = some_bytes(alloc, b"abc")?;
+    Ok(Message::packet_out(4, 1, actions, content))
+}
+
+fn echo_reply(alloc: Global) -> Result<Message, Fail>
+    ensures { IfOk result (λ m. IsValidMessage m) }
+{
+    Ok(Message::echo_reply(5, some_bytes(alloc, b"abc")?))
+}
+
+fn removal(alloc: Global) -> Result<Message, Fail>
+    ensures { IfOk result (λ m. IsValidMessage m) }
+{
+    let mods = FlowMod::delete(alloc, Match::any())
+        .with_command(OFPFC_DELETE_STRICT)
+        .with_hard_timeout(6)
+        .with_flags(OFPFF_SEND_FLOW_REM)
+        .with_out_port(2);
+    Ok(Message::flow_mod(6, mods))
+}
+
+// The refusal of a FLOW_MOD, which has the first 64 bytes of it.
+fn refusal_of_drop_entry(alloc: Global) -> Result<Message, Fail>
+    ensures { IfOk result (λ m. IsValidMessage m) }
+{
+    Ok(Message::error(alloc, 3, 0, &drop_entry(alloc)?)?)
+}
+
+// Whether the message is written as these bytes, and these bytes are read as the message.
+fn stands_as(alloc: Global, message: &Message, bytes: &[u8]) -> Result<bool, Fail>
+    requires { IsValidMessage message.now }
+{
+    let written = encode(alloc, message)?;
+    Ok(written.as_slice() == bytes && read(alloc, bytes)?.same(message))
+}
+
+const HELLO: &[u8] = b"\x01\x00\x00\x08\x00\x00\x00\x01";
+
+const DROP_ENTRY: &[u8] =
+    b"\x01\x0e\x00\x48\x00\x00\x00\x02\x00\x38\x20\xff\x00\x00\x00\x00\x00\x00\x00\x00\x00\x00\x00\x00\x00\x00\x00\x00\x00\x00\x00\x00\x00\x00\x00\x00\x00\x00\x00\x00\x00\x00\x00\x00\x00\x00\x00\x00\x00\x00\x00\x00\x00\x00\x00\x00\x00\x00\x00\x00\x00\x00\x00\x64\xff\xff\xff\xff\xff\xff\x00\x00";
+
+const FORWARD_ENTRY: &[u8] =
+    b"\x01\x0e\x00\x50\x00\x00\x00\x03\x00\x38\x20\xff\x00\x00\x00\x00\x00\x00\x00\x00\x00\x00\x00\x00\x00\x00\x00\x00\x00\x00\x00\x00\x00\x00\x00\x00\x00\x00\x00\x00\x00\x00\x00\x00\x00\x00\x00\x00\x00\x00\x00\x00\x00\x00\x00\x00\x00\x00\x00\x05\x00\x00\x00\x64\xff\xff\xff\xff\xff\xff\x00\x00\x00\x00\x00\x08\x00\x02\x00\x00";
+
+const FLOOD: &[u8] =
+    b"\x01\x0d\x00\x1b\x00\x00\x00\x04\xff\xff\xff\xff\x00\x01\x00\x08\x00\x00\x00\x08\xff\xfb\x00\x00abc";
+
+const ECHO_REPLY: &[u8] = b"\x01\x03\x00\x0b\x00\x00\x00\x05abc";
+
+const REMOVAL: &[u8] =
+    b"\x01\x0e\x00\x48\x00\x00\x00\x06\x00\x38\x20\xff\x00\x00\x00\x00\x00\x00\x00\x00\x00\x00\x00\x00\x00\x00\x00\x00\x00\x00\x00\x00\x00\x00\x00\x00\x00\x00\x00\x00\x00\x00\x00\x00\x00\x00\x00\x00\x00\x00\x00\x00\x00\x00\x00\x00\x00\x04\x00\x00\x00\x06\x00\x00\xff\xff\xff\xff\x00\x02\x00\x01";
+
+const REFUSAL_OF_DROP_ENTRY: &[u8] =
+    b"\x01\x01\x00\x4c\x00\x00\x00\x02\x00\x03\x00\x00\x01\x0e\x00\x48\x00\x00\x00\x02\x00\x38\x20\xff\x00\x00\x00\x00\x00\x00\x00\x00\x00\x00\x00\x00\x00\x00\x00\x00\x00\x00\x00\x00\x00\x00\x00\x00\x00\x00\x00\x00\x00\x00\x00\x00\x00\x00\x00\x00\x00\x00\x00\x00\x00\x00\x00\x00\x00\x00\x00\x00\x00\x00\x00\x64";
+
+#[test]
+fn messages_of_ones_own(rt: HostRuntime) -> Result<(), Fail> {
+    let alloc = rt.alloc();
+    assert!(rt; stands_as(alloc, &hello(), HELLO)?);
+    assert!(rt; stands_as(alloc, &drop_entry(alloc)?, DROP_ENTRY)?);
+    assert!(rt; stands_as(alloc, &forward_entry(alloc)?, FORWARD_ENTRY)?);
+    assert!(rt; stands_as(alloc, &flood(alloc)?, FLOOD)?);
+    assert!(rt; stands_as(alloc, &echo_reply(alloc)?, ECHO_REPLY)?);
+    assert!(rt; stands_as(alloc, &removal(alloc)?, REMOVAL)?);
+    assert!(rt; stands_as(alloc, &refusal_of_drop_entry(alloc)?, REFUSAL_OF_DROP_ENTRY)?);
     Ok(())
 }
