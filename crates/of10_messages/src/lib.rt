@@ -14,6 +14,7 @@ mod parts;
 mod port;
 mod reading;
 mod refusals;
+mod valid;
 mod values;
 mod writing;
 
