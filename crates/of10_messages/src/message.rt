@@ -21,7 +21,7 @@ pub struct FlowMod {
     pub hard_timeout: u16,
     /// Of entries with wildcards the one of highest priority counts.
     pub priority: u16,
-    /// A packet that the switch keeps, or 0xffffffff for none.
+    /// A packet that the switch keeps, or `OFP_NO_BUFFER`.
     pub buffer_id: u32,
     /// The port by which a DELETE picks entries, or `OFPP_NONE` for all.
     pub out_port: u16,
@@ -86,9 +86,9 @@ pub enum Message {
     /// Section 5.4.4.
     Error {
         xid: u32,
-        /// `ofp_error_type`.
+        /// `OFPET_HELLO_FAILED` to `OFPET_QUEUE_OP_FAILED`.
         kind: u16,
-        /// By the type.
+        /// By the type: `OFPBRC_..` of a bad request, `OFPBAC_..` of a bad action, `OFPFMFC_..` of a FLOW_MOD.
         code: u16,
         /// At least 64 bytes of the request that failed, or all of it.
         content: Bytes,
@@ -131,7 +131,7 @@ pub enum Message {
     /// Section 5.4.1.
     PacketIn {
         xid: u32,
-        /// The packet where the switch keeps it, or 0xffffffff.
+        /// The packet where the switch keeps it, or `OFP_NO_BUFFER`.
         buffer_id: u32,
         /// The length of the whole packet, of which `content` may be a beginning.
         total_len: u16,
@@ -164,7 +164,7 @@ pub enum Message {
     /// Section 5.3.6.
     PacketOut {
         xid: u32,
-        /// A packet that the switch keeps, or 0xffffffff where `content` is the packet.
+        /// A packet that the switch keeps, or `OFP_NO_BUFFER` where `content` is the packet.
         buffer_id: u32,
         in_port: u16,
         /// The length of the actions in bytes.

@@ -2,7 +2,7 @@
 //! tells the proof that it fits its type.
 
 ghost use Rattle.std.specs.Prelude.{◌≡◌, ◌↔◌, ◌<◌, ◌^◌, All, IsTrue, length};
-ghost use Rattle.of10_messages.specs.Valid.{AreBytes, HasValidBody, IsOtherAction, IsOtherKind, IsValidAction, IsValidFeatures, IsValidFlowMod, IsValidMessage, IsValidPort};
+ghost use Rattle.of10_messages.specs.Valid.{HasValidBody, IsOtherAction, IsOtherKind, IsValidAction, IsValidFeatures, IsValidFlowMod, IsValidMessage, IsValidPort};
 ghost use Rattle.of10_messages.specs.Wire.{actions_bytes, message_xid};
 
 use crate::action::Action;

@@ -42,3 +42,6 @@ pub const OFPPR_MODIFY: u8 = 2;
 
 /// `ofp_port_state`, section 5.2.1: no link at the port, or it is down.
 pub const OFPPS_LINK_DOWN: u32 = 1 << 0;
+
+/// The `buffer_id` that stands for no buffer, sections 5.3.3, 5.3.6 and 5.4.1.
+pub const OFP_NO_BUFFER: u32 = 0xffff_ffff;
