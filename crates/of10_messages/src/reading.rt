@@ -11,7 +11,7 @@ ghost use Rattle.byteorder.specs.Endian.{big_from};
 use crate::action::{Action, Actions10};
 use crate::bad::BadMessage;
 use crate::kinds::*;
-use crate::laws::bytes_hold_valid_messages;
+use crate::laws::{bytes_hold_valid_messages, no_refusal_is_want_of_memory};
 use crate::message::{Features, FlowMod, Message};
 use crate::parts::{copy_at, match_at};
 use crate::port::{PortDesc, PortDescs};
@@ -284,17 +284,20 @@ fn packet_out(alloc: Global, xid: u32, bytes: &[u8]) -> Result<Message, BadMessa
 }
 
 /// The message of the bytes: OpenFlow 1.0.0 section 5. Padding, the body of a HELLO, and the values and bits of a match
-/// that are not compared are dropped. The reasons of a refusal are tried in the order of [`BadMessage`].
+/// that are not compared are dropped. The reasons of a refusal are tried in the order of [`BadMessage`], and before memory is
+/// asked for.
 #[tactic(auto, using(crate::proofs::Accepted::accepted))]
 pub fn decode(alloc: Global, bytes: &[u8]) -> Result<Message, BadMessage>
     ensures ok { IfOk result (λ m. Reads bytes.now m) }
     ensures valid { IfOk result (λ m. IsValidMessage m) }
     ensures refused { IfErr result (λ e. e ≢ OutOfMemory → refusal_of bytes.now ≡ Some e) }
+    ensures memory { IfErr result (λ e. e ≡ OutOfMemory → refusal_of bytes.now ≡ None) }
 {
+    // A law does nothing at run time: its clause is a fact for the proof.
+    no_refusal_is_want_of_memory();
     if let Some(bad) = refusal(bytes) {
         return Err(bad);
     }
-    // A law does nothing at run time: its clause is a fact for the proof.
     bytes_hold_valid_messages();
     message_of(alloc, bytes)
 }
