@@ -1,7 +1,9 @@
 -- Which bytes are refused, and why: the first reason that holds, in one order.
-use Rattle.std.specs.Prelude.{◌≡◌, ◌≤◌, true, ℕ, ◌+◌, ◌-◌, ◌%◌, ◌==◌, ◌&&◌, ◌||◌, Bool, not, List, [], ◌∷◌, length, take, drop, slice_index, Option, Some, None, option_map, nat_lt, nat_le, if◌then◌else◌, zero, suc}
+use Rattle.std.specs.Prelude.{◌≡◌, ◌≤◌, true, false, get_or, ℕ, ◌+◌, ◌-◌, ◌%◌, ◌==◌, ◌&&◌, ◌||◌, Bool, not, List, [], ◌∷◌, length, take, drop, slice_index, Option, Some, None, option_map, nat_lt, nat_le, if◌then◌else◌, zero, suc}
 use Rattle.std.specs.List.{find}
 use Rattle.byteorder.specs.Endian.{big_from}
+use Rattle.of10_messages.specs.declared.extents.Extent.{Extent}
+use Rattle.of10_messages.specs.declared.extents.Extent.TheVariants.{Exactly, AtLeast}
 use Rattle.of10_messages.specs.declared.bad.BadMessage.{BadMessage}
 use Rattle.of10_messages.specs.declared.bad.BadMessage.TheVariants.{Short, Version, Length, Kind, BodyLength, BadAction}
 
@@ -65,23 +67,56 @@ bad_action_of bytes = bad_action_of_kind (slice_index bytes 1) bytes
 
 -- ---- the lengths of messages
 
--- the types of which all messages have one length: FEATURES_REQUEST, GET_CONFIG_REQUEST, BARRIER_REQUEST,
--- BARRIER_REPLY, GET_CONFIG_REPLY, SET_CONFIG, FLOW_REMOVED and PORT_STATUS
-abbrev pub is_fixed : ℕ → Bool
-is_fixed kind = kind == 5 || (kind == 7 || (kind == 8 || (kind == 9 || (kind == 11 || (kind == 12 || (kind == 18 || kind == 19))))))
+-- How long the messages of each type are, the types in order (section 5.1, ofp_type): just that long, or that long up to
+-- their first part of any length. Where the whole body is kept as it is, that is the header (which lengths are refused is
+-- this project's own rule).
+abbrev pub extents : List Extent
+extents =
+    AtLeast 8  -- HELLO
+    ∷ AtLeast 12  -- ERROR
+    ∷ AtLeast 8  -- ECHO_REQUEST
+    ∷ AtLeast 8  -- ECHO_REPLY
+    ∷ AtLeast 8  -- VENDOR
+    ∷ Exactly 8  -- FEATURES_REQUEST
+    ∷ AtLeast 32  -- FEATURES_REPLY
+    ∷ Exactly 8  -- GET_CONFIG_REQUEST
+    ∷ Exactly 12  -- GET_CONFIG_REPLY
+    ∷ Exactly 12  -- SET_CONFIG
+    ∷ AtLeast 18  -- PACKET_IN
+    ∷ Exactly 88  -- FLOW_REMOVED
+    ∷ Exactly 64  -- PORT_STATUS
+    ∷ AtLeast 16  -- PACKET_OUT
+    ∷ AtLeast 72  -- FLOW_MOD
+    ∷ AtLeast 8  -- PORT_MOD
+    ∷ AtLeast 8  -- STATS_REQUEST
+    ∷ AtLeast 8  -- STATS_REPLY
+    ∷ Exactly 8  -- BARRIER_REQUEST
+    ∷ Exactly 8  -- BARRIER_REPLY
+    ∷ AtLeast 8  -- QUEUE_GET_CONFIG_REQUEST
+    ∷ AtLeast 8  -- QUEUE_GET_CONFIG_REPLY
+    ∷ []
 
--- the length of a message of a type up to its first part of any length; where the whole body is kept as it is, that of
--- the header (which lengths are refused is this project's own rule)
+-- how long the messages of a type are; no message has a type above 21
+abbrev pub extent_of : ℕ → Extent
+extent_of kind = get_or extents kind (AtLeast 8)
+
+-- whether a length is the only one
+abbrev pub is_exact : Extent → Bool
+is_exact (Exactly n) = true
+is_exact (AtLeast n) = false
+
+-- the least of the lengths
+abbrev pub least_within : Extent → ℕ
+least_within (Exactly n) = n
+least_within (AtLeast n) = n
+
+-- whether all messages of a type have one length
+abbrev pub is_fixed : ℕ → Bool
+is_fixed kind = is_exact (extent_of kind)
+
+-- the length of a message of a type up to its first part of any length
 abbrev pub least_length : ℕ → ℕ
-least_length kind =
-    if kind == 1 || (kind == 8 || kind == 9) then 12
-    else if kind == 6 then 32
-    else if kind == 10 then 18
-    else if kind == 11 then 88
-    else if kind == 12 then 64
-    else if kind == 13 then 16
-    else if kind == 14 then 72
-    else 8
+least_length kind = least_within (extent_of kind)
 
 -- Whether bytes have a length of a type: that one or more, or just that one. After a FEATURES_REPLY's there are whole
 -- ports of 48 bytes, and after a PACKET_OUT's the actions of the length that it says.

@@ -6,6 +6,7 @@ mod action;
 mod bad;
 mod build;
 mod errors;
+mod extents;
 mod kinds;
 pub mod laws;
 mod lengths;

@@ -1,9 +1,10 @@
 //! Whether bytes are a message, and else why not.
 
 ghost use Rattle.std.specs.Prelude.{◌≡◌, ◌+◌, ◌-◌, ◌<◌, ◌≤◌, ◌^◌, true, false, None, length, take, drop};
-ghost use Rattle.of10_messages.specs.Refusal.{IsAccepted, IsGoodAction, bad_action, bad_action_of, fixed_length, has_body, is_bad_action, is_fixed, kind_at_start, least_length, refusal_of};
+ghost use Rattle.of10_messages.specs.Refusal.{IsAccepted, IsGoodAction, bad_action, bad_action_of, fixed_length, has_body, is_bad_action, kind_at_start, refusal_of};
 
 use crate::bad::BadMessage;
+use crate::extents::{Extent, extent_of};
 use crate::kinds::*;
 use wire_bytes::{front_of, rest_at, u16_at};
 
@@ -78,43 +79,6 @@ fn bad_action_of(bytes: &[u8]) -> Option<BadMessage>
     }
 }
 
-/// Whether all messages of a type have one length.
-fn is_fixed(kind: u8) -> bool
-    ensures { result ≡ is_fixed kind }
-{
-    kind == OFPT_FEATURES_REQUEST
-        || kind == OFPT_GET_CONFIG_REQUEST
-        || kind == OFPT_GET_CONFIG_REPLY
-        || kind == OFPT_SET_CONFIG
-        || kind == OFPT_FLOW_REMOVED
-        || kind == OFPT_PORT_STATUS
-        || kind == OFPT_BARRIER_REQUEST
-        || kind == OFPT_BARRIER_REPLY
-}
-
-/// The length of a message of a type up to its first part of any length.
-fn least_length(kind: u8) -> usize
-    ensures { result ≡ least_length kind }
-{
-    if kind == OFPT_ERROR || kind == OFPT_GET_CONFIG_REPLY || kind == OFPT_SET_CONFIG {
-        12
-    } else if kind == OFPT_FEATURES_REPLY {
-        32
-    } else if kind == OFPT_PACKET_IN {
-        18
-    } else if kind == OFPT_FLOW_REMOVED {
-        88
-    } else if kind == OFPT_PORT_STATUS {
-        64
-    } else if kind == OFPT_PACKET_OUT {
-        16
-    } else if kind == OFPT_FLOW_MOD {
-        72
-    } else {
-        8
-    }
-}
-
 /// Whether bytes have a length of their type.
 #[tactic(auto, unfolding(crate::specs::Refusal::has_body))]
 fn has_body(bytes: &[u8]) -> bool
@@ -122,10 +86,10 @@ fn has_body(bytes: &[u8]) -> bool
     ensures { result ≡ has_body bytes.now }
 {
     let kind = bytes[1];
-    let least = least_length(kind);
-    if is_fixed(kind) {
-        return bytes.len() == least;
-    }
+    let least = match extent_of(kind) {
+        Extent::Exactly(length) => return bytes.len() == length,
+        Extent::AtLeast(length) => length,
+    };
     if bytes.len() < least {
         return false;
     }
