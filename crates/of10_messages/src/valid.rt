@@ -234,3 +234,111 @@ fn has_valid_body(message: &Message) -> bool
         }
     }
 }
+
+#[cfg(test)]
+mod tests {
+    use super::*;
+    use crate::action::Bytes;
+    use crate::values::OFP_NO_BUFFER;
+    use listed::Listed;
+    use of10_match::{Match, OFPP_NONE};
+    use std::alloc::Global;
+    use std::test::Fail;
+
+    const TOO_MUCH: u64 = 1 << 48;
+
+    fn zeros(alloc: Global, count: usize) -> Result<Bytes, Fail> {
+        Ok(Listed::of(vec![in alloc; 0u8; count]?))
+    }
+
+    #[test]
+    fn actions(rt: HostRuntime) -> Result<(), Fail> {
+        let alloc = rt.alloc();
+        assert!(rt; Action::StripVlan.is_valid() && Action::SetDlSrc(TOO_MUCH - 1).is_valid());
+        assert!(rt; !Action::SetDlDst(TOO_MUCH).is_valid());
+        for (kind, count, valid) in [
+            (OFPAT_ENQUEUE, 12usize, true),
+            (OFPAT_ENQUEUE, 4, false),
+            (OFPAT_VENDOR, 4, true),
+            (OFPAT_VENDOR, 5, false),
+            (OFPAT_SET_TP_DST, 4, false),
+        ] {
+            let action = Action::Other {
+                kind,
+                body: zeros(alloc, count)?,
+            };
+            assert_eq!(rt; action.is_valid(), valid, "{count} bytes of type {kind}");
+        }
+        Ok(())
+    }
+
+    #[test]
+    fn messages(rt: HostRuntime) -> Result<(), Fail> {
+        let alloc = rt.alloc();
+        for (kind, valid) in [(OFPT_PORT_MOD, true), (OFPT_HELLO, false)] {
+            let message = Message::Other {
+                xid: 1,
+                kind,
+                body: zeros(alloc, 2)?,
+            };
+            assert_eq!(rt; message.is_valid(), valid, "type {kind}");
+        }
+        for (actions_len, valid) in [(8u16, true), (0, false)] {
+            let message = Message::PacketOut {
+                xid: 1,
+                buffer_id: OFP_NO_BUFFER,
+                in_port: OFPP_NONE,
+                actions_len,
+                actions: Listed::of(vec![in alloc; Action::StripVlan]?),
+                content: zeros(alloc, 2)?,
+            };
+            assert_eq!(rt; message.is_valid(), valid, "{actions_len} bytes of actions");
+        }
+        Ok(())
+    }
+
+    #[test]
+    fn addresses(rt: HostRuntime) -> Result<(), Fail> {
+        let alloc = rt.alloc();
+        for (address, valid) in [(TOO_MUCH - 1, true), (TOO_MUCH, false)] {
+            let port = PortDesc {
+                port_no: 1,
+                hw_addr: address,
+                name: [0; 16],
+                config: 0,
+                state: 0,
+                curr: 0,
+                advertised: 0,
+                supported: 0,
+                peer: 0,
+            };
+            let features = Features {
+                datapath_id: 1,
+                n_buffers: 0,
+                n_tables: 1,
+                capabilities: 0,
+                actions: 0,
+                ports: Listed::of(vec![in alloc; port]?),
+            };
+            let mods = FlowMod {
+                matches: Match {
+                    dl_src: Some(address),
+                    ..Match::any()
+                },
+                cookie: 0,
+                command: 0,
+                idle_timeout: 0,
+                hard_timeout: 0,
+                priority: 0,
+                buffer_id: OFP_NO_BUFFER,
+                out_port: OFPP_NONE,
+                flags: 0,
+                actions: Listed::new(alloc),
+            };
+            assert_eq!(rt; port.is_valid(), valid);
+            assert_eq!(rt; features.is_valid(), valid);
+            assert_eq!(rt; mods.is_valid(), valid);
+        }
+        Ok(())
+    }
+}
