@@ -5,13 +5,15 @@ use Rattle.std.specs.List.{flat_map}
 use Rattle.std.proofs.lemmas.List.Folds.{length-flat_map-take}
 use Rattle.of10_messages.specs.declared.action.Action.{Action}
 use Rattle.of10_messages.specs.declared.action.Action.TheVariants as action
-use Rattle.of10_messages.specs.Lengths.{action_len, actions_len}
+use Rattle.of10_messages.specs.Lengths.{action_len, actions_len, message_len}
 use Rattle.std.proofs.lemmas.List.Elements.{All-head, All-tail}
 use Rattle.std.proofs.lemmas.List.Sums.{sum_by-cons}
 use Rattle.of10_match.specs.Wire.{match_bytes}
 use Rattle.of10_match.specs.declared.matches.Match.{Match}
-use Rattle.of10_messages.specs.Valid.{IsValidPort}
-use Rattle.of10_messages.specs.Wire.{action_bytes, actions_bytes, features_bytes, features_fields, flow_mod_bytes, flow_mod_fields, port_bytes, port_head, port_tail}
+use Rattle.of10_messages.specs.Valid.{HasValidBody, IsValidPort}
+use Rattle.of10_messages.specs.Wire.{action_bytes, actions_bytes, body_bytes, canon_bytes, features_bytes, features_fields, flow_mod_bytes, flow_mod_fields, port_bytes, port_head, port_tail, removal_fields}
+use Rattle.of10_messages.specs.declared.message.Message.{Message}
+use Rattle.of10_messages.specs.declared.message.Message.TheVariants as message
 use Rattle.of10_messages.specs.declared.message.FlowMod.{FlowMod}
 use Rattle.of10_messages.specs.declared.message.Features.{Features}
 use Rattle.of10_messages.specs.declared.port.PortDesc.{PortDesc}
@@ -69,3 +71,29 @@ length_actions (a ∷ actions) =
     let rest = length_actions actions in
     let sum = sum_by-cons action_len a actions in
     simp length-append (omega (arith, one, rest, sum))
+
+-- the body of a message is the message without its header
+length_body : (m : Message) → HasValidBody m → 8 + length (body_bytes m) ≡ message_len m
+unfolding removal_fields
+length_body (message.Hello xid) valid = refl
+length_body (message.Error xid kind code content) valid = simp length-append (omega arith)
+length_body (message.EchoRequest xid content) valid = refl
+length_body (message.EchoReply xid content) valid = refl
+length_body (message.FeaturesRequest xid) valid = refl
+length_body (message.FeaturesReply xid features) valid = omega (arith, length_features features valid.ports)
+length_body (message.GetConfigRequest xid) valid = refl
+length_body (message.GetConfigReply xid flags miss_send_len) valid = refl
+length_body (message.SetConfig xid flags miss_send_len) valid = refl
+length_body (message.PacketIn xid buffer_id total_len in_port reason content) valid = simp length-append (omega arith)
+length_body (message.FlowRemoved xid matches cookie priority reason duration_sec duration_nsec idle_timeout packet_count byte_count) valid =
+    simp length-append (omega (arith, length_match matches))
+length_body (message.PortStatus xid reason port) valid = omega (arith, length_port port valid.1.name_length)
+length_body (message.PacketOut xid buffer_id in_port said actions content) valid = simp length-append (omega (arith, length_actions actions))
+length_body (message.FlowMod xid mods) valid = omega (arith, length_flow_mod mods, length_actions mods.actions)
+length_body (message.BarrierRequest xid) valid = refl
+length_body (message.BarrierReply xid) valid = refl
+length_body (message.Other xid kind body) valid = refl
+
+pub length_message : (m : Message) → HasValidBody m → length (canon_bytes m) ≡ message_len m
+unfolding canon_bytes
+length_message m valid = omega (arith, length_body m valid)

@@ -1,30 +1,28 @@
 //! Messages, FLOW_MODs and actions that are valid as they are built.
 
-ghost use Rattle.std.specs.Prelude.{◌≡◌, ◌+◌, ◌<◌, ◌^◌, ◌∷◌, [], All, IfOk, length, take};
+ghost use Rattle.std.specs.Prelude.{◌≡◌, ◌+◌, ◌*◌, ◌<◌, ◌^◌, ◌∷◌, [], All, IfOk, length, take};
 ghost use Rattle.of10_match.specs.Match.{IsValidMatch};
 ghost use Rattle.of10_messages.specs.Lengths.{actions_len};
-ghost use Rattle.of10_messages.specs.Valid.{IsValidAction, IsValidFlowMod, IsValidMessage};
+ghost use Rattle.of10_messages.specs.Valid.{IsValidAction, IsValidFeatures, IsValidFlowMod, IsValidMessage, IsValidPort};
 ghost use Rattle.of10_messages.specs.Wire.{canon_bytes, message_xid};
 
 use crate::action::{Action, Actions10, Bytes};
-use crate::laws::lengths_of_actions;
+use crate::laws::{lengths_of_actions, lengths_of_messages};
 use crate::lengths::actions_len;
-use crate::message::{FlowMod, Message};
+use crate::message::{Features, FlowMod, Message};
 use crate::parts::bytes_are_bytes;
-use crate::values::{OFPFC_ADD, OFPFC_DELETE};
+use crate::port::PortDesc;
+use crate::values::{OFP_NO_BUFFER, OFPFC_ADD, OFPFC_DELETE};
 use crate::writing::encode;
 use listed::Listed;
 use of10_match::{Match, OFPP_NONE};
 use std::alloc::{AllocError, Global};
 
-/// The `buffer_id` of a packet that no switch keeps.
-const OFP_NO_BUFFER: u32 = 0xffff_ffff;
-
 /// How much of a request its ERROR has at most.
 const ERROR_CONTENT: usize = 64;
 
 impl Message {
-    ghost use Rattle.of10_messages.specs.declared.message.Message.TheVariants.{BarrierReply, BarrierRequest, EchoReply, EchoRequest, Error, FeaturesRequest, FlowMod as FlowModMessage, GetConfigRequest, Hello, PacketIn, PacketOut};
+    ghost use Rattle.of10_messages.specs.declared.message.Message.TheVariants.{BarrierReply, BarrierRequest, EchoReply, EchoRequest, Error, FeaturesReply, FeaturesRequest, FlowMod as FlowModMessage, GetConfigReply, GetConfigRequest, Hello, PacketIn, PacketOut, PortStatus, SetConfig};
 
     #[tactic(auto, unfolding(crate::specs::Wire::canon_bytes))]
     pub fn hello(xid: u32) -> Message
@@ -108,6 +106,51 @@ impl Message {
             code,
             content: Listed::of(bytes),
         })
+    }
+
+    /// What a switch can do.
+    pub fn features_reply(xid: u32, features: Features) -> Message
+        requires valid { IsValidFeatures features }
+        requires fits { 32 + 48 * length features.ports < 2 ^ 16 }
+        ensures message { result ≡ FeaturesReply xid features }
+        ensures valid { IsValidMessage result }
+    {
+        lengths_of_messages();
+        Message::FeaturesReply { xid, features }
+    }
+
+    #[tactic(auto, unfolding(crate::specs::Wire::canon_bytes))]
+    pub fn get_config_reply(xid: u32, flags: u16, miss_send_len: u16) -> Message
+        ensures message { result ≡ GetConfigReply xid flags miss_send_len }
+        ensures valid { IsValidMessage result }
+    {
+        Message::GetConfigReply {
+            xid,
+            flags,
+            miss_send_len,
+        }
+    }
+
+    #[tactic(auto, unfolding(crate::specs::Wire::canon_bytes))]
+    pub fn set_config(xid: u32, flags: u16, miss_send_len: u16) -> Message
+        ensures message { result ≡ SetConfig xid flags miss_send_len }
+        ensures valid { IsValidMessage result }
+    {
+        Message::SetConfig {
+            xid,
+            flags,
+            miss_send_len,
+        }
+    }
+
+    /// A port that was added or deleted, or has changed.
+    pub fn port_status(xid: u32, reason: u8, port: PortDesc) -> Message
+        requires { IsValidPort port }
+        ensures message { result ≡ PortStatus xid reason port }
+        ensures valid { IsValidMessage result }
+    {
+        lengths_of_messages();
+        Message::PortStatus { xid, reason, port }
     }
 
     /// A whole packet that the switch does not keep.

@@ -2,10 +2,10 @@
 
 ghost use Rattle.std.specs.Prelude.{◌≡◌, ◌≢◌, ◌∷◌, ◌+◌, ◌<◌, ◌≤◌, ◌++◌, ℕ, List, [], None, Some, false, true, drop, length, slice_index};
 ghost use Rattle.byteorder.specs.Endian.{big_from};
-ghost use Rattle.of10_messages.specs.Lengths.{actions_len};
+ghost use Rattle.of10_messages.specs.Lengths.{actions_len, message_len};
 ghost use Rattle.of10_messages.specs.Reading.{Reads};
 ghost use Rattle.of10_messages.specs.Refusal.{IsAccepted, IsGoodAction, action_starts, first_bad, is_bad_action, least_length, out_actions, refusal_of, told_length};
-ghost use Rattle.of10_messages.specs.Valid.{IsValidMessage};
+ghost use Rattle.of10_messages.specs.Valid.{HasValidBody, IsValidMessage};
 ghost use Rattle.of10_messages.specs.Wire.{actions_bytes, canon_bytes};
 ghost use Rattle.of10_messages.specs.declared.action.Action.{Action};
 ghost use Rattle.of10_messages.specs.declared.bad.BadMessage.TheVariants.{OutOfMemory};
@@ -70,4 +70,9 @@ pub fn actions_stand_one_after_the_other()
 /// Actions have as many bytes as the sum of the lengths of their kinds.
 pub fn lengths_of_actions()
     ensures { (actions : List Action) → length (actions_bytes actions) ≡ actions_len actions }
+{}
+
+/// A message whose fields are valid has as many bytes as its type says.
+pub fn lengths_of_messages()
+    ensures { (m : Message) → HasValidBody m → length (canon_bytes m) ≡ message_len m }
 {}

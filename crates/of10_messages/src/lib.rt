@@ -18,6 +18,7 @@ mod port;
 mod reading;
 mod refusals;
 mod valid;
+mod show;
 mod values;
 mod writing;
 

@@ -643,3 +643,54 @@ fn messages_of_ones_own(rt: HostRuntime) -> Result<(), Fail> {
     assert!(rt; stands_as(alloc, &refusal_of_drop_entry(alloc)?, REFUSAL_OF_DROP_ENTRY)?);
     Ok(())
 }
+
+#[test]
+fn texts_of_messages(rt: HostRuntime) -> Result<(), Fail> {
+    let alloc = rt.alloc();
+    for (bytes, text) in [
+        (HELLO, "OFPT_HELLO (xid=0x1)"),
+        (OTHERS[1], "OFPT_ERROR (xid=0x2): type=1 code=6 data_len=3"),
+        (ECHO_REPLY, "OFPT_ECHO_REPLY (xid=0x5): data_len=3"),
+        (OTHERS[4], "OFPT_VENDOR (xid=0x5): 4 bytes"),
+        (
+            FEATURES_REPLY,
+            "OFPT_FEATURES_REPLY (xid=0x7): dpid:0000000000000001 n_buffers:256 n_tables:2 capabilities:0xc7 actions:0xfff; port 1 addr:02:00:00:01:00:01 config:0x1 state:0x1",
+        ),
+        (
+            OTHERS[8],
+            "OFPT_SET_CONFIG (xid=0x9): flags=0x2 miss_send_len=65535",
+        ),
+        (
+            PACKET_IN,
+            "OFPT_PACKET_IN (xid=0x2): in_port=1 reason=no_match buffer=none total_len=36 data_len=36",
+        ),
+        (
+            OTHERS[9],
+            "OFPT_FLOW_REMOVED (xid=0xa): * priority=32768 reason=hard cookie:0x9 duration:5.000000006s idle:7 packets:8 bytes:512",
+        ),
+        (
+            OTHERS[10],
+            "OFPT_PORT_STATUS (xid=0xb): MODIFY port 2 addr:02:00:00:01:00:02 config:0x20 state:0x1",
+        ),
+        (
+            OTHERS[11],
+            "OFPT_PACKET_OUT (xid=0xc): in_port=NONE buffer=none data_len=2 actions=CONTROLLER:64,mod_vlan_vid:100,mod_vlan_pcp:5,strip_vlan,mod_dl_src:00:00:00:00:00:0a,mod_dl_dst:00:00:00:00:00:0b,mod_nw_src:10.0.0.1,mod_nw_dst:10.0.0.2,mod_nw_tos:44,mod_tp_src:80,mod_tp_dst:1000,type 11, 12 bytes,type 65535, 4 bytes",
+        ),
+        (
+            FLOOD,
+            "OFPT_PACKET_OUT (xid=0x4): in_port=1 buffer=none data_len=3 actions=FLOOD",
+        ),
+        (
+            FORWARD_ENTRY,
+            "OFPT_FLOW_MOD (xid=0x3): ADD * priority=100 cookie:0x0 idle:5 hard:0 flags:0x0 actions=output:2",
+        ),
+        (
+            REMOVAL,
+            "OFPT_FLOW_MOD (xid=0x6): DELETE_STRICT * priority=0 cookie:0x0 idle:0 hard:6 out_port:2 flags:0x1 actions=drop",
+        ),
+    ] {
+        let message = read(alloc, bytes)?;
+        assert_eq!(rt; format!(in alloc; "{message}")?.as_str(), text);
+    }
+    Ok(())
+}
