@@ -168,12 +168,15 @@ fn show_actions<W: fmt::Write>(f: &mut fmt::Formatter<W>, actions: &[Action]) ->
 
 impl fmt::Display for FlowMod {
     fn fmt<W: fmt::Write>(&self, f: &mut fmt::Formatter<W>) -> fmt::Result {
-        write!(f, "{} ", command_name(self.command))?;
-        write!(f, "{}", self.matches)?;
         write!(
             f,
-            " priority={} cookie:{:#x} idle:{} hard:{}",
-            self.priority, self.cookie, self.idle_timeout, self.hard_timeout
+            "{} {} priority={} cookie:{:#x} idle:{} hard:{}",
+            command_name(self.command),
+            self.matches,
+            self.priority,
+            self.cookie,
+            self.idle_timeout,
+            self.hard_timeout
         )?;
         if self.buffer_id != OFP_NO_BUFFER {
             write!(f, " buffer:{}", Buffer(self.buffer_id))?;
@@ -279,11 +282,9 @@ fn show_fields<W: fmt::Write>(f: &mut fmt::Formatter<W>, message: &Message) -> f
             byte_count,
             ..
         } => {
-            f.write_str(": ")?;
-            write!(f, "{matches}")?;
             write!(
                 f,
-                " priority={priority} reason={} cookie:{cookie:#x} duration:{duration_sec}.{duration_nsec:09}s",
+                ": {matches} priority={priority} reason={} cookie:{cookie:#x} duration:{duration_sec}.{duration_nsec:09}s",
                 flow_removed_reason(*reason)
             )?;
             write!(

@@ -685,6 +685,10 @@ fn texts_of_messages(rt: HostRuntime) -> Result<(), Fail> {
             "OFPT_FLOW_MOD (xid=0x3): ADD * priority=100 cookie:0x0 idle:5 hard:0 flags:0x0 actions=output:2",
         ),
         (
+            FLOW_MOD,
+            "OFPT_FLOW_MOD (xid=0x4): ADD in_port=2,dl_vlan=65535,dl_vlan_pcp=0,dl_src=00:00:00:00:00:02,dl_dst=00:00:00:00:00:01,dl_type=0x0800,nw_src=0.0.0.20,nw_dst=0.0.0.10,nw_proto=6,nw_tos=0,tp_src=80,tp_dst=1000 priority=32768 cookie:0x1 idle:0 hard:0 flags:0x0 actions=output:1",
+        ),
+        (
             REMOVAL,
             "OFPT_FLOW_MOD (xid=0x6): DELETE_STRICT * priority=0 cookie:0x0 idle:0 hard:6 out_port:2 flags:0x1 actions=drop",
         ),
