@@ -12,8 +12,9 @@ pub(crate) enum Extent {
     AtLeast(usize),
 }
 
-/// The types in order. Where the whole body is kept as it is, a message has at least its header.
-const EXTENTS: [Extent; 22] = [
+/// The types in order. Where the whole body is kept as it is, a message has at least its header. An index into a constant
+/// would copy all of it first.
+static EXTENTS: [Extent; 22] = [
     Extent::AtLeast(8), // HELLO
     Extent::AtLeast(12), // ERROR
     Extent::AtLeast(8), // ECHO_REQUEST
