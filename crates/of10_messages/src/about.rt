@@ -7,7 +7,7 @@ use crate::kinds::*;
 use crate::message::Message;
 
 impl Message {
-    /// The type in the message's header: one of the `OFPT_` constants.
+    /// The type in the message's header, one of the `OFPT_` constants where the message is valid.
     pub fn kind(&self) -> u8
         ensures { result ≡ message_kind self.now }
     {

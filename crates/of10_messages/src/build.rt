@@ -314,7 +314,7 @@ impl FlowMod {
 impl Action {
     ghost use Rattle.of10_messages.specs.declared.action.Action.TheVariants.{Output};
 
-    /// Sends the packet out of a port. To a controller it sends nothing of the packet.
+    /// An OUTPUT to a port, with `max_len` 0.
     pub fn output(port: u16) -> Action
         ensures value { result ≡ Output port 0 }
         ensures valid { IsValidAction result }
