@@ -1,0 +1,4 @@
+pub mod BestLaws
+pub mod Changes
+pub mod Counting
+pub mod Outcomes
