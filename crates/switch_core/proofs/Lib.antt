@@ -1,0 +1,4 @@
+pub mod Few
+pub mod Sends
+pub mod Stays
+pub mod Valid

@@ -1,0 +1,5 @@
+pub mod Leaving
+pub mod Ports
+pub mod Refusal
+pub mod State
+pub mod Step

@@ -1,0 +1,19 @@
+//! Laws of the definitions: contracts of functions that do nothing. A call in a body names a law that the proof stands on.
+
+ghost use Rattle.std.specs.Prelude.{◌<◌, ◌^◌, ℕ};
+ghost use Rattle.of10_match.specs.declared.packet.Packet.{Packet};
+ghost use Rattle.of10_messages.specs.Valid.{IsValidMessage};
+ghost use Rattle.of10_messages.specs.declared.message.Message.{Message};
+ghost use Rattle.of10_messages.specs.declared.notice.Notice.{Notice};
+ghost use Rattle.switch_core.specs.State.{IsState};
+ghost use Rattle.switch_core.specs.Step.{handled, noticed, received, sent_count};
+ghost use Rattle.switch_core.specs.declared.state.State.{State};
+
+/// A step sends fewer than 2^32 messages and packets.
+pub fn a_step_sends_few()
+    ensures message { (s : State) (m : Message) → IsState s → IsValidMessage m → sent_count (handled s m) < 2 ^ 32 }
+    ensures packet { (s : State) (in_port : ℕ) (packet : Packet) → IsState s → sent_count (received s in_port packet) < 2 ^ 32 }
+    ensures notice { (s : State) (notice : Notice) → IsState s → sent_count (noticed s notice) < 2 ^ 32 }
+{
+    of10_messages::laws::lengths_of_messages();
+}
