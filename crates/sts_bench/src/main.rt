@@ -1,8 +1,10 @@
-//! Times layers of the workspace, one by one: `sts_bench LAYER COUNT`, where LAYER is `messages`, `turn_book` or `all`.
-//! Figures go to standard error. Messages go by whole hundreds.
+//! Times layers of the workspace, one by one: `sts_bench LAYER COUNT`, where LAYER is `messages`, `tables`, `turn_book` or
+//! `all`. Figures go to standard error. Messages go by whole hundreds.
 #![tactic(auto)]
 
+mod figure;
 mod messages;
+mod tables;
 mod turns;
 
 use anyhow::{Result, bail};
@@ -34,6 +36,34 @@ fn time_messages<R: AllocGlobal + Clock + Eprint + Print + Sync>(rt: &R, count: 
     Ok(())
 }
 
+fn time_tables<R: AllocGlobal + Clock + Eprint + Print>(rt: &R, calls: u64) -> Result<()> {
+    let figures = tables::timed(rt, calls)?;
+    for (name, figure) in [
+        ("first", figures.first),
+        ("last", figures.last),
+        ("none", figures.none),
+    ] {
+        let tenths = tenths_each(figure.time, calls);
+        eprintln!(rt;
+            "tables: {name} of 1024: {}.{} ns each",
+            tenths / 10,
+            tenths % 10
+        )?;
+    }
+    let packets = tables::timed_switch(rt, calls)?;
+    let tenths = tenths_each(packets.time, calls);
+    eprintln!(rt;
+        "tables: switch of 16: {}.{} ns each",
+        tenths / 10,
+        tenths % 10
+    )?;
+    println!(rt;
+        "tables: {calls} look-ups each: first {}, last {}, none {}; {} packets left",
+        figures.first.sum, figures.last.sum, figures.none.sum, packets.sum
+    )?;
+    Ok(())
+}
+
 fn time_turns<R: AllocGlobal + Clock + Eprint + Print + Threads + Sync>(
     rt: &R,
     tries: u64,
@@ -52,16 +82,18 @@ fn time_turns<R: AllocGlobal + Clock + Eprint + Print + Threads + Sync>(
 fn main(rt: HostRuntime) -> Result<()> {
     let mut words = env::args(&rt)?.skip(1);
     let (Some(layer), Some(count)) = (words.next(), words.next()) else {
-        bail!("usage: sts_bench messages|turn_book|all COUNT");
+        bail!("usage: sts_bench messages|tables|turn_book|all COUNT");
     };
     let count = count.parse::<u64>()?;
     match layer.as_str() {
         "messages" => time_messages(&rt, count),
+        "tables" => time_tables(&rt, count),
         "turn_book" => time_turns(&rt, count),
         "all" => {
             time_messages(&rt, count)?;
+            time_tables(&rt, count)?;
             time_turns(&rt, count)
         }
-        _ => bail!("usage: sts_bench messages|turn_book|all COUNT"),
+        _ => bail!("usage: sts_bench messages|tables|turn_book|all COUNT"),
     }
 }

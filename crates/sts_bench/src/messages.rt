@@ -2,11 +2,12 @@
 ghost use Rattle.std.specs.Prelude.{All, IfOk};
 ghost use Rattle.of10_messages.specs.Valid.{IsValidMessage};
 
+use crate::figure::Figure;
 use anyhow::Result;
 use of10_messages::{BadMessage, Message, decode, encode};
 use of10_view::View;
 use std::alloc::{AllocError, Global};
-use std::time::{Clock, Duration, Instant};
+use std::time::{Clock, Instant};
 
 /// ADD with all twelve fields of a match, and one output.
 const FLOW_MOD: &[u8] =
@@ -14,13 +15,6 @@ const FLOW_MOD: &[u8] =
 
 /// How many messages one round goes over. They differ in xid and cookie, so that no answer can be used again.
 pub const ROUND: u8 = 100;
-
-/// How long the calls take together, and a sum over what they answered.
-#[derive(Clone, Copy, Debug)]
-pub struct Figure {
-    pub time: Duration,
-    pub sum: u64,
-}
 
 #[derive(Clone, Copy, Debug)]
 pub struct Figures {
