@@ -1,4 +1,5 @@
 pub mod Few
+pub mod Lasting
 pub mod Sends
 pub mod Stays
 pub mod Valid

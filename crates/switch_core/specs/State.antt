@@ -1,5 +1,5 @@
 -- The state of a switch: what it starts as, and what it can be.
-use Rattle.std.specs.Prelude.{ℕ, ◌<◌, ◌≤◌, ◌^◌, [], length, All}
+use Rattle.std.specs.Prelude.{◌≡◌, ℕ, ◌<◌, ◌≤◌, ◌^◌, [], length, All}
 use Rattle.flow_table.specs.Entry.{IsTable}
 use Rattle.flow_table.specs.Expiry.{IsPast}
 use Rattle.switch_core.specs.declared.state.State.{State}
@@ -32,3 +32,9 @@ pub record IsState (s : State) : Type 0 where
   pub flags : s.flags < 2 ^ 16
   pub miss_send_len : s.miss_send_len < 2 ^ 16
   pub down : s.down < 2 ^ 64
+
+-- a switch after a step: it has the number and the ports that it had, and its clock shows a time
+pub record IsAt (now : ℕ) (before after : State) : Type 0 where
+  pub number : after.number ≡ before.number
+  pub ports : after.ports ≡ before.ports
+  pub clock : after.clock ≡ now

@@ -185,6 +185,12 @@ HasRoomFor s (Tick seconds) = s.clock + seconds < 2 ^ 32
 HasRoomFor s (Port port down) = (1 ≤ port) × (port ≤ s.ports)
 HasRoomFor s (Join down) = Unit {0}
 
+-- the time after a notice: seconds pass at a tick alone
+abbrev pub time_after : State → Notice → ℕ
+time_after s (Tick seconds) = s.clock + seconds
+time_after s (Port port down) = s.clock
+time_after s (Join down) = s.clock
+
 -- Seconds pass: entries run out, and the controller is told of those that it wants to know of. A port goes down or comes up,
 -- and the controller is told. A controller is there: the switch learns which ports are down, and greets it.
 abbrev pub noticed : State → Notice → Step

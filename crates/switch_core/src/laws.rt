@@ -5,8 +5,8 @@ ghost use Rattle.of10_match.specs.declared.packet.Packet.{Packet};
 ghost use Rattle.of10_messages.specs.Valid.{IsValidMessage};
 ghost use Rattle.of10_messages.specs.declared.message.Message.{Message};
 ghost use Rattle.of10_messages.specs.declared.notice.Notice.{Notice};
-ghost use Rattle.switch_core.specs.State.{IsState};
-ghost use Rattle.switch_core.specs.Step.{handled, noticed, received, sent_count};
+ghost use Rattle.switch_core.specs.State.{IsAt, IsState};
+ghost use Rattle.switch_core.specs.Step.{handled, noticed, received, sent_count, time_after};
 ghost use Rattle.switch_core.specs.declared.state.State.{State};
 
 /// A step sends fewer than 2^32 messages and packets.
@@ -17,3 +17,10 @@ pub fn a_step_sends_few()
 {
     of10_messages::laws::lengths_of_messages();
 }
+
+/// A step keeps the number and the ports of a switch, and its clock goes on at a tick alone, by so many seconds.
+pub fn a_step_keeps_the_switch()
+    ensures message { (s : State) (m : Message) → IsAt s.clock s (handled s m).state }
+    ensures packet { (s : State) (in_port : ℕ) (packet : Packet) → IsAt s.clock s (received s in_port packet).state }
+    ensures notice { (s : State) (notice : Notice) → IsAt (time_after s notice) s (noticed s notice).state }
+{}
