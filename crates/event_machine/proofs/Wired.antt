@@ -1,7 +1,8 @@
 -- What the parts of the test of a network's wiring say together.
 use Rattle.std.proofs.Common.{◌≡◌, ◌≢◌, ℕ, List, ◌++◌, map, Bool, true, false, IsTrue, ◌↔◌, All, AllPairs, ◌&&◌}
 use Rattle.topology.specs.declared.network.Topology.{Topology}
-use Rattle.event_machine.specs.Setup.{IsPort, IsWired, ends_of, places_of}
+use Rattle.topology.specs.Network.{IsPort, ends_of, places_of}
+use Rattle.event_machine.specs.Setup.{IsWired}
 
 -- both tests are passed
 both : (a b : Bool) → IsTrue (a && b) ↔ (IsTrue a × IsTrue b)

@@ -1,23 +1,12 @@
 -- Which scenarios can run.
-use Rattle.std.specs.Prelude.{◌≡◌, ◌≢◌, ℕ, ◌<◌, ◌≤◌, List, [], ◌∷◌, ◌++◌, length, map, flat_map, slice_index, All, AllPairs, None}
+use Rattle.std.specs.Prelude.{◌≡◌, ◌≢◌, ◌<◌, ◌≤◌, ◌++◌, length, map, All, AllPairs, None}
 use Rattle.of10_match.specs.Packet.{IsValidPacket}
+use Rattle.topology.specs.Network.{IsPort, ends_of, places_of}
 use Rattle.topology.specs.declared.network.Topology.{Topology}
 use Rattle.event_machine.specs.declared.script.Input.{Input}
 use Rattle.event_machine.specs.declared.script.Input.TheVariants.{Inject}
 use Rattle.event_machine.specs.declared.setup.Limits.{Limits}
 use Rattle.event_machine.specs.declared.setup.Setup.{Setup}
-
--- a switch and a port of it: ports are numbered from 1
-abbrev pub IsPort : List ℕ → ℕ × ℕ → Type 0
-IsPort ports place = (place.0 < length ports) × (1 ≤ place.1) × (place.1 ≤ slice_index ports place.0)
-
--- both ends of each link
-abbrev pub ends_of : List (ℕ × ℕ × ℕ × ℕ) → List (ℕ × ℕ)
-ends_of links = flat_map (λ link. (link.0, link.1) ∷ (link.2, link.3) ∷ []) links
-
--- where the hosts start
-abbrev pub places_of : List (ℕ × ℕ × ℕ) → List (ℕ × ℕ)
-places_of hosts = map (λ host. (host.0, host.1)) hosts
 
 -- switches: at most 64, each with 1 to 48 ports, and none with a controller
 pub record IsSwitches (topology : Topology) : Type 0 where

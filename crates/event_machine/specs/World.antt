@@ -16,7 +16,7 @@ use Rattle.event_machine.specs.declared.script.Line.{Line}
 use Rattle.event_machine.specs.declared.setup.Setup.{Setup}
 use Rattle.event_machine.specs.declared.world.StepNo.{StepNo}
 use Rattle.event_machine.specs.declared.world.StepNo.TheVariants.{NotEnabled, OutOfMemory}
-use Rattle.event_machine.specs.Setup.{IsPort, ends_of}
+use Rattle.topology.specs.Network.{IsPort, ends_of}
 use Rattle.event_machine.specs.Pools.{packets_at, waiting}
 
 -- What is up and where the hosts are; the packets that wait at each port, by switch and then by port; and how many
@@ -106,6 +106,7 @@ after_all setup events = fold (next setup) (start setup) events
 -- an item that a pool may hold
 abbrev pub IsItem : Item → Type 0
 IsItem (item.Packet packet) = IsValidPacket packet
+IsItem other = ⊥
 
 -- numbers grow with the events, by less than 2^32 an event
 pub record IsPool (events : ℕ) (queue : Queue) : Type 0 where

@@ -1,6 +1,7 @@
 //! Whether a setup can run.
 ghost use Rattle.std.specs.Prelude.{◌≡◌, ◌≢◌, ◌≤◌, ◌↔◌, ◌∷◌, [], ◌++◌, map, All, AllPairs, None, IsTrue, IfOk};
-ghost use Rattle.event_machine.specs.Setup.{IsPort, IsNetwork, IsSwitches, IsWired, IsInput, IsLimits, IsValidSetup, ends_of, places_of};
+ghost use Rattle.topology.specs.Network.{IsPort, ends_of};
+ghost use Rattle.event_machine.specs.Setup.{IsNetwork, IsSwitches, IsWired, IsInput, IsLimits, IsValidSetup};
 
 use crate::script::{Input, Line};
 use crate::setup::{Limits, Setup};

@@ -7,7 +7,7 @@ pub record Queue : Type 0 where
   pub first : ℕ
   pub items : List Item
 
--- a queue, and how many items can be put with no need of memory
+-- a queue, and for how many items more there is room
 pub record Reserved : Type 0 where
   pub queue : Queue
   pub spare : ℕ

@@ -1,5 +1,5 @@
 //! A queue whose items are numbered in the order of their coming.
-ghost use Rattle.std.specs.Prelude.{◌≡◌, ◌+◌, ◌<◌, ◌≤◌, ◌^◌, ◌↔◌, [], length, IsTrue, OnOk, option_map};
+ghost use Rattle.std.specs.Prelude.{◌≡◌, ◌+◌, ◌<◌, ◌≤◌, ◌^◌, ◌↔◌, [], length, IsTrue, IfOk, OnOk, option_map};
 ghost use Rattle.message_pools.specs.Queue.{empty_queue, next_number, head_of, rest_of, with_last, flushed};
 
 use crate::item::Item;
@@ -8,15 +8,18 @@ use std::collections::VecDeque;
 use std::marker::Model;
 
 /// The items that wait, first in, first out. Contracts see the queue, and beside it the room that was
-/// reserved, so that a put that follows a `reserve` can't fail.
+/// reserved and not used yet, so that a put that follows a `reserve` can't fail. Room is no part of what a
+/// pool stands for: a copy has none.
 #[derive(Debug, Drop)]
 pub struct Pool {
     items: VecDeque<Item>,
     first: u64,
+    // Within what the deque can take without growing.
+    spare: usize,
 }
 
 impl Model for Pool {
-    ghost use Rattle.std.specs.Prelude.{◌+◌, ◌-◌, ◌≤◌, ◌^◌};
+    ghost use Rattle.std.specs.Prelude.{◌+◌, ◌≤◌, ◌^◌};
     ghost use Rattle.std.specs.VecDeque.{deque_len, deque_capacity};
     ghost use Rattle.message_pools.specs.Queue.{Reserved};
 
@@ -24,10 +27,10 @@ impl Model for Pool {
 
     ghost view = { λ p. record {
       queue = record { first = p.first; items = p.items.items };
-      spare = deque_capacity p.items - deque_len p.items;
+      spare = p.spare;
     } };
 
-    ghost invariant = { λ p. p.first + deque_len p.items ≤ 2 ^ 63 };
+    ghost invariant = { λ p. (p.first + deque_len p.items ≤ 2 ^ 63) × (deque_len p.items + p.spare ≤ deque_capacity p.items) };
 }
 
 impl Pool {
@@ -38,16 +41,37 @@ impl Pool {
         Pool {
             items: VecDeque::new(alloc),
             first: 0,
+            spare: 0,
         }
     }
 
-    /// Makes room for `more` items. The queue is the same whatever the answer.
+    /// Makes room for `more` items in all. The queue is the same whatever the answer.
     pub fn reserve(&mut self, more: usize) -> Result<(), AllocError>
         ensures room { OnOk result (more ≤ self.new.spare) }
         ensures kept { self.old.spare ≤ self.new.spare }
         ensures queue { self.new.queue ≡ self.old.queue }
     {
-        self.items.reserve(more)
+        if more > self.spare {
+            self.items.reserve(more)?;
+            self.spare = more;
+        }
+        Ok(())
+    }
+
+    /// For how many items more there is room.
+    pub fn spare(&self) -> usize
+        ensures { result ≡ self.now.spare }
+    {
+        self.spare
+    }
+
+    /// Makes room for one item beside those for which there is room already. The queue is the same whatever the answer.
+    pub fn reserve_one(&mut self) -> Result<(), AllocError>
+        ensures room { OnOk result (self.old.spare + 1 ≤ self.new.spare) }
+        ensures kept { self.old.spare ≤ self.new.spare }
+        ensures queue { self.new.queue ≡ self.old.queue }
+    {
+        self.reserve(self.spare.checked_add(1).ok_or(AllocError)?)
     }
 
     /// Puts an item last, and answers its number.
@@ -60,6 +84,7 @@ impl Pool {
     {
         let number = self.first + self.items.len() as u64;
         self.items.push_back(item).unwrap();
+        self.spare -= 1;
         number
     }
 
@@ -104,13 +129,25 @@ impl Pool {
     {
         self.items.is_empty()
     }
+
+    /// A second pool with the same queue.
+    pub fn copy(&self) -> Result<Pool, AllocError>
+        ensures { IfOk result (λ pool. pool.queue ≡ self.now.queue) }
+    {
+        Ok(Pool {
+            items: self.items.clone()?,
+            first: self.first,
+            spare: 0,
+        })
+    }
 }
 
 #[cfg(test)]
 mod tests {
     use super::*;
     use listed::Plain;
-    use of10_match::{Header, Packet};
+    use of10_match::{Header, Match, Packet};
+    use of10_messages::{Message, Notice};
     use std::test::Fail;
 
     fn packet(tag: u32) -> Item {
@@ -133,7 +170,8 @@ mod tests {
     #[test]
     fn numbers_go_on_after_a_flush(rt: HostRuntime) -> Result<(), Fail> {
         let mut pool = Pool::new(rt.alloc());
-        pool.reserve(3)?;
+        pool.reserve(2)?;
+        pool.reserve_one()?;
         assert_eq!(rt; pool.put(packet(7)), 0);
         assert_eq!(rt; pool.put(packet(8)), 1);
         let (number, item) = pool.head().ok_or("a head")?;
@@ -141,10 +179,34 @@ mod tests {
         let (number, item) = pool.take().ok_or("an item")?;
         assert!(rt; number == 0 && item.same(&packet(7)));
         assert_eq!(rt; pool.len(), 1);
+        let copy = pool.copy()?;
         pool.flush();
         assert!(rt; pool.is_empty());
         assert!(rt; pool.head().is_none());
         assert_eq!(rt; pool.put(packet(9)), 2);
+        let (number, item) = copy.head().ok_or("a head of the copy")?;
+        assert!(rt; number == 1 && item.same(&packet(8)));
+        Ok(())
+    }
+
+    #[test]
+    fn items_are_told_apart(rt: HostRuntime) -> Result<(), Fail> {
+        let items = [
+            Item::Message(Message::Hello { xid: 1 }),
+            Item::Message(Message::Hello { xid: 2 }),
+            Item::Gone,
+            packet(7),
+            packet(8),
+            Item::Notice(Notice::Tick(1)),
+            Item::Notice(Notice::Join { down: 1 }),
+            Item::Policy(Match::any()),
+        ];
+        for (at, item) in items.iter().enumerate() {
+            let copy = item.copy()?;
+            for (place, other) in items.iter().enumerate() {
+                assert_eq!(rt; copy.same(other), at == place);
+            }
+        }
         Ok(())
     }
 }

@@ -1,5 +1,9 @@
 //! The fixed part of a network.
+ghost use Rattle.std.specs.Prelude.{◌≡◌, ◌<◌, ◌^◌, length, IfOk};
+ghost use Rattle.topology.specs.Network.{is_place};
+
 use listed::Listed;
+use std::alloc::{AllocError, Global};
 
 /// The number of ports of each switch, by switch number from 0. Ports are numbered from 1.
 pub type Ports = Listed<u16>;
@@ -26,4 +30,43 @@ pub struct Topology {
     pub owner: Owners,
     pub links: Links,
     pub hosts: Hosts,
+}
+
+impl Topology {
+    ghost use Rattle.topology.specs.Network.{far_end};
+
+    /// The link that ends at port `p` of switch `s`, with the switch and the port of its other end. It goes through the links.
+    pub fn far_end(&self, s: u16, p: u16) -> Option<(u16, u16, u16)>
+        requires { length self.now.links < 2 ^ 16 }
+        ensures { result ≡ far_end self.now s p }
+    {
+        for (at, link) in self.links.iter().enumerate() {
+            if is_place((link.0, link.1), s, p) {
+                return Some((at as u16, link.2, link.3));
+            }
+            if is_place((link.2, link.3), s, p) {
+                return Some((at as u16, link.0, link.1));
+            }
+        }
+        None
+    }
+
+    /// The same network again.
+    pub fn copy(&self, alloc: Global) -> Result<Topology, AllocError>
+        ensures { IfOk result (λ topology. topology ≡ self.now) }
+    {
+        Ok(Topology {
+            ports: Listed::of(self.ports.to_vec(alloc)?),
+            owner: Listed::of(self.owner.to_vec(alloc)?),
+            links: Listed::of(self.links.to_vec(alloc)?),
+            hosts: Listed::of(self.hosts.to_vec(alloc)?),
+        })
+    }
+}
+
+// Whether the place is port `p` of switch `s`.
+pub(crate) fn is_place(place: (u16, u16), s: u16, p: u16) -> bool
+    ensures { result ≡ is_place s p place }
+{
+    place.0 == s && place.1 == p
 }

@@ -1,5 +1,5 @@
 use Rattle.std.proofs.Common.{◌≡◌, take}
-use Rattle.event_machine.specs.Setup.{ends_of}
+use Rattle.topology.specs.Network.{ends_of}
 use Rattle.event_machine.proofs.valid.ends.Given as goal
 
 abbrev pub invariant-loop-link : goal.invariant-loop-link
