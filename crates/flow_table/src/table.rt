@@ -51,6 +51,14 @@ impl Table {
         }
     }
 
+    /// A table with these entries, in this order. It takes no memory.
+    pub fn of(entries: Vec<Entry>) -> Table
+        requires { IsTable entries.items }
+        ensures { result ≡ entries.items }
+    {
+        Table { entries }
+    }
+
     /// The entries in the order of their adding.
     pub fn entries(&self) -> &[Entry]
         ensures entries { result.now ≡ self.now }

@@ -190,6 +190,8 @@ fn an_overlap_is_named(rt: HostRuntime) -> Result<(), Fail> {
     let unchecked = checked.with_flags(0);
     table.command(Command::Add, &unchecked, 0)?;
     assert_eq!(rt; table.entries().len(), 6);
+    let again = Table::of(Vec::from_clones(alloc, table.entries())?);
+    assert!(rt; are_same(again.entries(), table.entries()));
     Ok(())
 }
 

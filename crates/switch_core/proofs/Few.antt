@@ -1,5 +1,5 @@
 -- How many things a step sends.
-use Rattle.std.proofs.Common.{◌≡◌, ◌+◌, ◌*◌, ◌<◌, ◌≤◌, ◌^◌, ◌==◌, ◌||◌, ℕ, Bool, true, false, not, List, [], ◌∷◌, All, length, map, slice_get, Option, Some, None, Result, Ok, Err, if◌then◌else◌, refl, arith, length-append}
+use Rattle.std.proofs.Common.{◌≡◌, ◌+◌, ◌*◌, ◌<◌, ◌≤◌, ◌^◌, ◌==◌, ◌||◌, ℕ, true, false, not, List, [], ◌∷◌, All, length, map, slice_get, Option, Some, None, Result, Ok, Err, if◌then◌else◌, refl, arith, length-append}
 use Rattle.std.specs.List.{filter, filter_map, flat_map, range_with_len}
 use Rattle.std.specs.Option.{option_and_then, option_map_or}
 use Rattle.std.proofs.lemmas.Bool.{cond_both, ne_eqb}
@@ -7,13 +7,12 @@ use Rattle.std.proofs.lemmas.List.{length-map}
 use Rattle.std.proofs.lemmas.List.Elements.{All-filter, All-head, All-tail}
 use Rattle.std.proofs.lemmas.List.FromFn.{get_or-range_with_len, length-range_with_len}
 use Rattle.std.proofs.lemmas.Grind.{flat_map-append}
-use Rattle.std.proofs.lemmas.List.Sums.{count_by-le-length, length-filter, sum_by-cons}
 use Rattle.listed.specs.Lists.{all_at}
 use Rattle.of10_match.specs.declared.header.Header.{Header}
 use Rattle.of10_match.specs.Packet.{packet_of}
 use Rattle.of10_match.specs.declared.packet.Packet.{Packet}
-use Rattle.of10_messages.specs.Lengths.{action_len, actions_len, message_len}
-use Rattle.of10_messages.specs.Valid.{HasValidBody, IsValidAction, IsValidMessage}
+use Rattle.of10_messages.specs.Lengths.{actions_len, message_len}
+use Rattle.of10_messages.specs.Valid.{HasValidBody, IsValidMessage}
 use Rattle.of10_messages.specs.Wire.{canon_bytes}
 use Rattle.of10_messages.specs.declared.action.Action.{Action}
 use Rattle.of10_messages.specs.declared.action.Action.TheVariants as action
@@ -24,7 +23,7 @@ use Rattle.of10_messages.specs.declared.notice.Notice.{Notice}
 use Rattle.of10_messages.specs.declared.notice.Notice.TheVariants.{Tick, Port, Join}
 use Rattle.flow_table.specs.Best.{after_packet, best_entry, best_place}
 use Rattle.flow_table.specs.Command.{After, command, deleted, is_named, without}
-use Rattle.flow_table.specs.Expiry.{gone, reason_of, runs_out, staying}
+use Rattle.flow_table.specs.Expiry.{gone, staying}
 use Rattle.flow_table.specs.Outcome.{after_action, is_port, outcome, outputs_of, outputs_to, ports_but}
 use Rattle.flow_table.specs.declared.command.Command.{Command}
 use Rattle.flow_table.specs.declared.command.Command.TheVariants.{Add, Modify, ModifyStrict, Delete, DeleteStrict}
@@ -41,6 +40,8 @@ use Rattle.switch_core.specs.declared.leaving.Leaving.{Leaving}
 use Rattle.switch_core.specs.declared.leaving.Leaving.TheVariants.{Told, Emitted}
 use Rattle.switch_core.specs.declared.leaving.News.TheVariants.{Arrival, Removal}
 use Rattle.switch_core.specs.declared.state.State.{State}
+use Rattle.switch_core.proofs.Actions.{least_actions}
+use Rattle.switch_core.proofs.Stays.{few_gone, few_pass}
 
 -- ---- one thing that leaves is one message or one packet
 
@@ -62,13 +63,9 @@ sends_count s ls = let all = all_more (nothing_sent s.next_xid) ls in omega (ari
 
 -- ---- outputs of one action
 
--- of a list that is filtered at most all is left
-left_few : {X : Type 0} (p : X → Bool) (xs : List X) → length (filter p xs) ≤ length xs
-left_few p xs = omega (arith, length-filter p xs, count_by-le-length p xs)
-
 -- the ports but one are at most all
 but_few : (ports but : ℕ) → length (ports_but ports but) ≤ ports
-but_few ports but = omega (arith, left_few (λ (port : ℕ). not (port == but)) (range_with_len 1 ports), length-range_with_len 1 ports)
+but_few ports but = omega (arith, few_pass (λ (port : ℕ). not (port == but)) (range_with_len 1 ports), length-range_with_len 1 ports)
 
 -- an Output to a port sends at most 48 things
 outputs_few : (ports in_port : ℕ) (header : Header) (port : ℕ) → ports ≤ 48 → length (outputs_to ports in_port header port) ≤ 48
@@ -158,29 +155,6 @@ module _ (s : State) (in_port tag : ℕ) (state : IsState s) where
       let parts = flat_map-append (sent_out s in_port tag) (outputs_of s.ports in_port header a) (outcome s.ports in_port (after_action header a) actions) in
       rw parts (simp length-append (omega (arith, rest, one)))
 
--- an action has at least 8 bytes
-least_action : (a : Action) → IsValidAction a → 8 ≤ action_len a
-least_action (action.Other kind body) valid = omega (arith, valid.padded)
-least_action (action.Output port max_len) valid = omega arith
-least_action (action.SetVlanVid vlan) valid = omega arith
-least_action (action.SetVlanPcp pcp) valid = omega arith
-least_action action.StripVlan valid = omega arith
-least_action (action.SetDlSrc address) valid = omega arith
-least_action (action.SetDlDst address) valid = omega arith
-least_action (action.SetNwSrc address) valid = omega arith
-least_action (action.SetNwDst address) valid = omega arith
-least_action (action.SetNwTos tos) valid = omega arith
-least_action (action.SetTpSrc port) valid = omega arith
-least_action (action.SetTpDst port) valid = omega arith
-
--- so many actions have at least 8 times as many bytes
-pub least_actions : (actions : List Action) → All IsValidAction actions → 8 * length actions ≤ actions_len actions
-least_actions [] valid = omega arith
-least_actions (a ∷ actions) valid =
-    let one = least_action a (All-head IsValidAction a actions valid) in
-    let rest = least_actions actions (All-tail IsValidAction a actions valid) in
-    omega (arith, one, rest, sum_by-cons action_len a actions)
-
 -- ---- steps
 
 abbrev pub Few : Step → Type 0
@@ -209,7 +183,7 @@ delete_few s request how mods state is =
     let removed = filter (is_named how mods) s.table in
     let told = λ (entry : Entry). Told (Removal entry 2 s.clock) in
     sends_few (record s { table = without how mods s.table }) (removals how s.clock removed) 1024
-    (rw is (omega (arith, length-map (filter wants_removal removed) told, left_few wants_removal removed, left_few (is_named how mods) s.table, state.table.few))) (omega arith)
+    (rw is (omega (arith, length-map (filter wants_removal removed) told, few_pass wants_removal removed, few_pass (is_named how mods) s.table, state.table.few))) (omega arith)
 
 commanded_few : (s : State) (request : Message) (how : Command) (mods : FlowMod) → IsState s → Few (commanded s request how (command how s.table mods s.clock))
 commanded_few s request Add mods state = not_delete_few s request Add (command Add s.table mods s.clock) refl
@@ -267,8 +241,7 @@ notice_few s (Tick seconds) state =
     let late = gone now s.table in
     let wants = λ (g : Entry × ℕ). wants_removal g.0 in
     let told = λ (g : Entry × ℕ). Told (Removal g.0 g.1 now) in
-    let reasons : Entry → Entry × ℕ = λ entry. (entry, reason_of now entry) in
     sends_few (record s { clock = now; table = staying now s.table }) (map told (filter wants late)) 1024
-    (omega (arith, length-map (filter wants late) told, left_few wants late, length-map (filter (runs_out now) s.table) reasons, left_few (runs_out now) s.table, state.table.few)) (omega arith)
+    (omega (arith, length-map (filter wants late) told, few_pass wants late, few_gone now s.table, state.table.few)) (omega arith)
 notice_few s (Port port down) state = omega arith
 notice_few s (Join down) state = omega arith

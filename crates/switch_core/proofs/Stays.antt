@@ -1,21 +1,20 @@
 -- What a switch can be stays so: entries that are counted, commanded or run out are of no later time than the clock, and their
 -- actions have come in one message.
-use Rattle.std.proofs.Common.{◌≡◌, ◌∙◌, ◌+◌, ◌*◌, ◌<◌, ◌≤◌, ◌^◌, ◌⊎◌, ◌==◌, ℕ, Bool, true, false, not, All, List, [], ◌∷◌, length, drop, take, get_or, filter, filter_map, Option, Some, None, Result, Ok, Err, if◌then◌else◌, inl, inr, refl, sym, subst, ap, arith}
+use Rattle.std.proofs.Common.{◌≡◌, ◌∙◌, ◌+◌, ◌<◌, ◌≤◌, ◌^◌, ◌⊎◌, ◌==◌, ℕ, Bool, true, false, not, All, List, [], ◌∷◌, length, drop, take, get_or, filter, filter_map, Option, Some, None, Result, Ok, Err, if◌then◌else◌, inl, inr, refl, sym, subst, ap, arith}
 use Rattle.std.specs.List.{cons_option, list_any}
 use Rattle.std.specs.Option.{option_map_or}
 use Rattle.std.proofs.lemmas.Bool.{eq-eqb}
 use Rattle.std.proofs.lemmas.List.{at_drop_more, length-map, take_all}
-use Rattle.std.proofs.lemmas.List.Elements.{All-cons, All-filter, All-head, All-map, All-nil, All-push, All-tail, All-weaker}
+use Rattle.std.proofs.lemmas.List.Elements.{All-cons, All-filter, All-map, All-nil, All-push, All-weaker}
 use Rattle.std.proofs.lemmas.List.Quantifiers.{position-Some}
-use Rattle.std.proofs.lemmas.List.Sums.{count_by-le-length, length-filter, sum_by-cons}
+use Rattle.std.proofs.lemmas.List.Sums.{count_by-le-length, length-filter}
 use Rattle.listed.specs.Lists.{all_changed, changed_at}
 use Rattle.of10_match.specs.Packet.{packet_of}
 use Rattle.of10_match.specs.declared.header.Header.{Header}
-use Rattle.of10_messages.specs.Lengths.{action_len, actions_len, message_len}
+use Rattle.of10_messages.specs.Lengths.{actions_len, message_len}
 use Rattle.of10_messages.specs.Valid.{HasValidBody, IsValidAction, IsValidMessage}
 use Rattle.of10_messages.specs.Wire.{canon_bytes}
 use Rattle.of10_messages.specs.declared.action.Action.{Action}
-use Rattle.of10_messages.specs.declared.action.Action.TheVariants as action
 use Rattle.of10_messages.specs.declared.message.FlowMod.{FlowMod}
 use Rattle.of10_messages.specs.declared.message.Message.{Message}
 use Rattle.flow_table.specs.Best.{best_place, has_greatest_rank}
@@ -32,6 +31,7 @@ use Rattle.switch_core.specs.State.{IsState}
 use Rattle.switch_core.specs.Refusal.{actions_refusal}
 use Rattle.switch_core.specs.Step.{applied, counted_at, hit_by, is_delete, is_to_table, packet_out}
 use Rattle.switch_core.specs.declared.state.State.{State}
+use Rattle.switch_core.proofs.Actions.{least_actions}
 
 -- what IsState says of each entry beside that it is valid
 pub record IsKept (now : ℕ) (entry : Entry) : Type 0 where
@@ -186,8 +186,8 @@ all_gone P now entries all =
     All-map (λ (late : Entry × ℕ). P late.0) (λ entry. (entry, reason_of now entry)) (filter (runs_out now) entries) (All-filter (runs_out now) P entries all)
 
 -- those that pass a test are no more than all
-pub few_pass : (p : Entry → Bool) (entries : List Entry) → length (filter p entries) ≤ length entries
-few_pass p entries = let long = length-filter p entries in let few = count_by-le-length p entries in omega arith
+pub few_pass : {X : Type 0} (p : X → Bool) (xs : List X) → length (filter p xs) ≤ length xs
+few_pass p xs = omega (arith, length-filter p xs, count_by-le-length p xs)
 
 -- nor are those that run out
 pub few_gone : (now : ℕ) (entries : List Entry) → length (gone now entries) ≤ length entries
@@ -203,33 +203,9 @@ few_gone now entries =
 pub parts_fit : (m : Message) → ((n : Message) → HasValidBody n → length (canon_bytes n) ≡ message_len n) → IsValidMessage m → message_len m < 2 ^ 16
 parts_fit m lengths valid = let long = lengths m valid.body in let fits = valid.length in omega arith
 
--- a valid action has 8 bytes at least
-eight : (a : Action) → IsValidAction a → 8 ≤ action_len a
-eight (action.Output port max_len) valid = omega arith
-eight (action.SetVlanVid vlan) valid = omega arith
-eight (action.SetVlanPcp pcp) valid = omega arith
-eight action.StripVlan valid = omega arith
-eight (action.SetDlSrc address) valid = omega arith
-eight (action.SetDlDst address) valid = omega arith
-eight (action.SetNwSrc address) valid = omega arith
-eight (action.SetNwDst address) valid = omega arith
-eight (action.SetNwTos tos) valid = omega arith
-eight (action.SetTpSrc port) valid = omega arith
-eight (action.SetTpDst port) valid = omega arith
-eight (action.Other kind body) valid = let padded = valid.padded in omega arith
-
--- so valid actions have together
-eight_each : (actions : List Action) → All IsValidAction actions → 8 * length actions ≤ actions_len actions
-eight_each [] valid = omega arith
-eight_each (a ∷ actions) valid =
-    let first = eight a (All-head IsValidAction a actions valid) in
-    let others = eight_each actions (All-tail IsValidAction a actions valid) in
-    let both = sum_by-cons action_len a actions in
-    omega arith
-
--- and those of a FLOW_MOD that fits a message are so many
+-- the actions of a FLOW_MOD that fits a message are so many
 pub actions_fit : (actions : List Action) → All IsValidAction actions → 72 + actions_len actions < 2 ^ 16 → length actions ≤ 8183
-actions_fit actions valid fits = let each = eight_each actions valid in omega arith
+actions_fit actions valid fits = let each = least_actions actions valid in omega arith
 
 -- ---- a PACKET_OUT
 

@@ -1,4 +1,5 @@
 pub mod Leaving
+pub mod Plan
 pub mod Ports
 pub mod Refusal
 pub mod State

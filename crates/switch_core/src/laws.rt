@@ -1,10 +1,11 @@
 //! Laws of the definitions: contracts of functions that do nothing. A call in a body names a law that the proof stands on.
 
-ghost use Rattle.std.specs.Prelude.{◌<◌, ◌^◌, ℕ};
+ghost use Rattle.std.specs.Prelude.{◌≡◌, ◌<◌, ◌≤◌, ◌^◌, ℕ, [], false, length, max};
 ghost use Rattle.of10_match.specs.declared.packet.Packet.{Packet};
 ghost use Rattle.of10_messages.specs.Valid.{IsValidMessage};
 ghost use Rattle.of10_messages.specs.declared.message.Message.{Message};
 ghost use Rattle.of10_messages.specs.declared.notice.Notice.{Notice};
+ghost use Rattle.switch_core.specs.Plan.{is_packet_out};
 ghost use Rattle.switch_core.specs.State.{IsAt, IsState};
 ghost use Rattle.switch_core.specs.Step.{handled, noticed, received, sent_count, time_after};
 ghost use Rattle.switch_core.specs.declared.state.State.{State};
@@ -17,6 +18,12 @@ pub fn a_step_sends_few()
 {
     of10_messages::laws::lengths_of_messages();
 }
+
+/// A message that is no PACKET_OUT, and a notice, send no packet, and at most one message, or as many as the table has entries.
+pub fn a_step_tells_few()
+    ensures message { (s : State) (m : Message) → is_packet_out m ≡ false → (length (handled s m).up ≤ max 1 (length s.table)) × ((handled s m).out ≡ []) }
+    ensures notice { (s : State) (notice : Notice) → (length (noticed s notice).up ≤ max 1 (length s.table)) × ((noticed s notice).out ≡ []) }
+{}
 
 /// A step keeps the number and the ports of a switch, and its clock goes on at a tick alone, by so many seconds.
 pub fn a_step_keeps_the_switch()

@@ -4,6 +4,7 @@
 pub mod laws;
 mod leaving;
 mod outs;
+mod planned;
 mod ports;
 mod refusals;
 mod sending;
@@ -13,6 +14,7 @@ mod switch;
 
 pub use leaving::{Leaving, News};
 pub use outs::{Emits, Outs, Ups};
+pub use planned::{Counts, Planned};
 pub use state::State;
 pub use switch::Switch;
 

@@ -1,9 +1,8 @@
 //! The steps of a switch. Each takes the memory that it needs before it changes anything that it could not undo.
 
-ghost use Rattle.std.specs.Prelude.{◌≡◌, ◌≤◌, ◌<◌, ◌+◌, ◌^◌, ◌∷◌, [], All, IfOk, IfSome, OnErr, OnOk, filter, length, map, take, true};
+ghost use Rattle.std.specs.Prelude.{◌≡◌, ◌≤◌, ◌<◌, ◌+◌, ◌^◌, ◌∷◌, [], All, IfOk, IfSome, OnErr, OnOk, filter, is_some, length, map, take, true};
 ghost use Rattle.std.specs.List.{filter_map, flat_map};
-ghost use Rattle.std.specs.Option.{option_map_or};
-ghost use Rattle.listed.specs.Lists.{changed_at};
+ghost use Rattle.std.specs.Option.{option_to_list};
 ghost use Rattle.of10_match.specs.Header.{IsValidHeader};
 ghost use Rattle.of10_match.specs.Packet.{IsValidPacket};
 ghost use Rattle.of10_messages.specs.Valid.{IsValidAction, IsValidFlowMod, IsValidMessage};
@@ -11,16 +10,18 @@ ghost use Rattle.of10_messages.specs.Wire.{canon_bytes, message_xid};
 ghost use Rattle.of10_messages.specs.declared.message.Message.TheVariants.{Error};
 ghost use Rattle.of10_messages.specs.declared.notice.Notice.TheVariants.{Join, Port, Tick};
 ghost use Rattle.flow_table.specs.Best.{best_place};
-ghost use Rattle.flow_table.specs.Entry.{IsTable, IsValidEntry, counted};
+ghost use Rattle.flow_table.specs.Entry.{IsTable, IsValidEntry};
 ghost use Rattle.flow_table.specs.Expiry.{IsPast};
 ghost use Rattle.switch_core.specs.Leaving.{IsValidLeaving, IsValidOuts, leave_all, nothing_sent};
+ghost use Rattle.switch_core.specs.Plan.{CanCount, counted_state, is_packet_out, planned_step};
 ghost use Rattle.switch_core.specs.State.{IsState};
-ghost use Rattle.switch_core.specs.Step.{HasRoomFor, applied, command_of, counted_at, flow_mod, handled, hit_by, is_delete, noticed, packet_out, received, removals, sent_by, sent_of, sent_out, sent_to, wants_removal};
+ghost use Rattle.switch_core.specs.Step.{HasRoomFor, applied, command_of, counted_at, flow_mod, handled, hit_by, is_delete, noticed, packet_out, received, refuses, removals, sent_by, sent_of, sent_out, sent_to, wants_removal};
 ghost use Rattle.switch_core.specs.declared.leaving.Leaving.TheVariants.{Told};
 ghost use Rattle.switch_core.specs.declared.leaving.News.TheVariants.{Removal};
 
 use crate::leaving::{Leaving, News};
 use crate::outs::Outs;
+use crate::planned::{Counts, Planned};
 use crate::ports::{features, port_desc, with_port};
 use crate::refusals::{actions_refusal, flow_mod_refusal};
 use crate::sending::Sending;
@@ -55,22 +56,51 @@ impl State {
         ensures err { OnErr result (self.new ≡ self.old) }
         ensures state { IsState self.new }
     {
+        let Planned { outs, counts } = self.plan_packet(alloc, in_port, packet)?;
+        self.carry_out(counts);
+        Ok(outs)
+    }
+
+    /// What a packet that comes in by a port will do.
+    pub(crate) fn plan_packet(
+        &self,
+        alloc: Global,
+        in_port: u16,
+        packet: &Packet,
+    ) -> Result<Planned, AllocError>
+        requires state { IsState self.now }
+        requires packet { IsValidPacket packet.now }
+        ensures step { IfOk result (λ planned. planned_step self.now planned ≡ received self.now in_port packet.now) }
+        ensures fits { IfOk result (λ planned. CanCount self.now planned.counts) }
+        ensures valid { IfOk result (λ planned. IsValidOuts planned.outs) }
+    {
         let best = self.table.best_place(in_port, &packet.header);
         let mut sending = Sending::new(alloc, self.next_xid);
         self.send_packet(alloc, &mut sending, best, in_port, packet)?;
-        self.count_best(best);
-        Ok(self.finish(sending))
+        Ok(planned(sending, hits_of(alloc, best)?))
     }
 
-    /// Counts a packet now for its best entry, if there is one.
-    fn count_best(&mut self, best: Option<usize>)
-        requires { IfSome best (λ place. place < length self.old.table) }
-        ensures { self.new ≡ record self.old {
-          table = option_map_or (λ place. changed_at place (counted self.old.clock) self.old.table) best self.old.table;
-        } }
+    /// Does what was planned, but for the sending.
+    pub(crate) fn carry_out(&mut self, counts: Counts)
+        requires state { IsState self.old }
+        requires fits { CanCount self.old counts }
+        ensures counted { self.new ≡ counted_state self.old counts }
+        ensures state { IsState self.new }
     {
-        if let Some(place) = best {
-            self.table.count_at(place, self.clock);
+        self.count_at(counts.hits.as_slice());
+        // A call of the table tells that it is one still.
+        prove!(self.table.entries().len() <= TABLE_CAPACITY);
+        self.next_xid = counts.next_xid;
+    }
+
+    /// Counts a packet now for the entry at each of these places.
+    fn count_at(&mut self, places: &[usize])
+        requires state { IsState self.old }
+        requires places { All (λ place. place < length self.old.table) places.now }
+        ensures { self.new ≡ record self.old { table = counted_at self.old.clock self.old.table places.now } }
+    {
+        for place in places {
+            self.table.count_at(*place, self.clock);
         }
     }
 
@@ -123,6 +153,36 @@ impl State {
 
     // ---- PACKET_OUT
 
+    /// What a PACKET_OUT, the request, with its fields, will do.
+    fn plan_packet_out(
+        &self,
+        alloc: Global,
+        request: &Message,
+        in_port: u16,
+        actions: &[Action],
+        content: &[u8],
+    ) -> Result<Planned, AllocError>
+        requires state { IsState self.now }
+        requires request { IsValidMessage request.now }
+        requires actions { All IsValidAction actions.now }
+        ensures step { IfOk result (λ planned. planned_step self.now planned ≡ packet_out self.now request.now in_port actions.now content.now) }
+        ensures fits { IfOk result (λ planned. CanCount self.now planned.counts) }
+        ensures valid { IfOk result (λ planned. IsValidOuts planned.outs) }
+    {
+        if let Some((kind, code)) = actions_refusal(true, self.ports, actions) {
+            return self.plan_refusal(alloc, request, kind, code);
+        }
+        if content.len() != 36 {
+            return self.plan_refusal(alloc, request, OFPET_BAD_REQUEST, OFPBRC_BAD_LEN);
+        }
+        match content.first_chunk::<36>() {
+            Some(record) => {
+                self.plan_actions(alloc, in_port, actions, &Packet::from_record(record))
+            }
+            None => unreachable!(),
+        }
+    }
+
     /// A PACKET_OUT, the request, with its fields.
     fn packet_out(
         &mut self,
@@ -141,40 +201,54 @@ impl State {
         ensures err { OnErr result (self.new ≡ self.old) }
         ensures state { IsState self.new }
     {
-        if let Some((kind, code)) = actions_refusal(true, self.ports, actions) {
-            return refuse(alloc, request, kind, code);
-        }
-        if content.len() != 36 {
-            return refuse(alloc, request, OFPET_BAD_REQUEST, OFPBRC_BAD_LEN);
-        }
-        match content.first_chunk::<36>() {
-            Some(record) => self.apply(alloc, in_port, actions, &Packet::from_record(record)),
-            None => unreachable!(),
-        }
+        let Planned { outs, counts } = self.plan_packet_out(
+            alloc, request, in_port, actions, content,
+        )?;
+        self.carry_out(counts);
+        Ok(outs)
     }
 
-    /// Applies actions to a packet that came in by a port.
-    fn apply(
-        &mut self,
+    /// What a request that is refused will do.
+    fn plan_refusal(
+        &self,
+        alloc: Global,
+        request: &Message,
+        kind: u16,
+        code: u16,
+    ) -> Result<Planned, AllocError>
+        requires state { IsState self.now }
+        requires request { IsValidMessage request.now }
+        ensures step { IfOk result (λ planned. planned_step self.now planned ≡ refuses self.now request.now kind code) }
+        ensures fits { IfOk result (λ planned. CanCount self.now planned.counts) }
+        ensures valid { IfOk result (λ planned. IsValidOuts planned.outs) }
+    {
+        let outs = refuse(alloc, request, kind, code)?;
+        let counts = Counts {
+            hits: Listed::new(alloc),
+            next_xid: self.next_xid,
+        };
+        Ok(Planned { outs, counts })
+    }
+
+    /// What actions will do that are applied to a packet that came in by a port.
+    fn plan_actions(
+        &self,
         alloc: Global,
         in_port: u16,
         actions: &[Action],
         packet: &Packet,
-    ) -> Result<Outs, AllocError>
-        requires state { IsState self.old }
+    ) -> Result<Planned, AllocError>
+        requires state { IsState self.now }
         requires actions { All IsValidAction actions.now }
         requires packet { IsValidPacket packet.now }
-        ensures ok { IfOk result (λ outs. applied self.old in_port actions.now packet.now
-            ≡ record { state = self.new; up = outs.up; out = outs.out }) }
-        ensures valid { IfOk result (λ outs. IsValidOuts outs) }
-        ensures err { OnErr result (self.new ≡ self.old) }
-        ensures state { IsState self.new }
+        ensures step { IfOk result (λ planned. planned_step self.now planned ≡ applied self.now in_port actions.now packet.now) }
+        ensures fits { IfOk result (λ planned. CanCount self.now planned.counts) }
+        ensures valid { IfOk result (λ planned. IsValidOuts planned.outs) }
     {
         let outputs = outcome(alloc, actions, self.ports, in_port, &packet.header)?;
         let mut sending = Sending::new(alloc, self.next_xid);
         let hits = self.send_out(alloc, &mut sending, outputs.as_slice(), in_port, packet.tag)?;
-        self.count_at(hits.as_slice());
-        Ok(self.finish(sending))
+        Ok(planned(sending, Listed::of(hits)))
     }
 
     /// Sends what the outputs of a PACKET_OUT send, and answers where the entries stand that took those to the table.
@@ -229,17 +303,6 @@ impl State {
                 sending.send(alloc, leaving_by(output.target, in_port, packet))?;
                 Ok(None)
             }
-        }
-    }
-
-    /// Counts a packet now for the entry at each of these places.
-    fn count_at(&mut self, places: &[usize])
-        requires state { IsState self.old }
-        requires places { All (λ place. place < length self.old.table) places.now }
-        ensures { self.new ≡ record self.old { table = counted_at self.old.clock self.old.table places.now } }
-    {
-        for place in places {
-            self.table.count_at(*place, self.clock);
         }
     }
 
@@ -301,6 +364,35 @@ impl State {
 
     // ---- messages
 
+    /// What a message will do, if it is a PACKET_OUT.
+    pub(crate) fn plan_message(
+        &self,
+        alloc: Global,
+        message: &Message,
+    ) -> Result<Option<Planned>, AllocError>
+        requires state { IsState self.now }
+        requires message { IsValidMessage message.now }
+        ensures kind { IfOk result (λ found. is_some found ≡ is_packet_out message.now) }
+        ensures step { IfOk result (λ found. IfSome found (λ planned. planned_step self.now planned ≡ handled self.now message.now)) }
+        ensures fits { IfOk result (λ found. IfSome found (λ planned. CanCount self.now planned.counts)) }
+        ensures valid { IfOk result (λ found. IfSome found (λ planned. IsValidOuts planned.outs)) }
+    {
+        match message {
+            Message::PacketOut {
+                in_port,
+                actions,
+                content,
+                ..
+            } => {
+                let actions = actions.as_slice();
+                let content = content.as_slice();
+                let planned = self.plan_packet_out(alloc, message, *in_port, actions, content)?;
+                Ok(Some(planned))
+            }
+            _ => Ok(None),
+        }
+    }
+
     /// A message from the controller.
     pub(crate) fn handle(&mut self, alloc: Global, message: &Message) -> Result<Outs, AllocError>
         requires state { IsState self.old }
@@ -341,13 +433,11 @@ impl State {
                 actions,
                 content,
                 ..
-            } => self.packet_out(
-                alloc,
-                message,
-                *in_port,
-                actions.as_slice(),
-                content.as_slice(),
-            ),
+            } => {
+                let actions = actions.as_slice();
+                let content = content.as_slice();
+                self.packet_out(alloc, message, *in_port, actions, content)
+            }
             Message::Other {
                 kind: OFPT_VENDOR,
                 ..
@@ -462,6 +552,31 @@ fn refuse(alloc: Global, request: &Message, kind: u16, code: u16) -> Result<Outs
     ensures valid { IfOk result (λ outs. IsValidOuts outs) }
 {
     answer(alloc, Message::error(alloc, kind, code, request)?)
+}
+
+// ---- plans
+
+/// The step that sends this and counts these entries.
+fn planned(sending: Sending, hits: Listed<usize>) -> Planned
+    ensures up { result.outs.up ≡ sending.sent.up }
+    ensures out { result.outs.out ≡ sending.sent.out }
+    ensures hits { result.counts.hits ≡ hits }
+    ensures next_xid { result.counts.next_xid ≡ sending.sent.next_xid }
+    ensures valid { IsValidOuts result.outs }
+{
+    let (outs, next_xid) = sending.finish();
+    let counts = Counts { hits, next_xid };
+    Planned { outs, counts }
+}
+
+/// The place of a best entry, if there is one, as a list.
+fn hits_of(alloc: Global, best: Option<usize>) -> Result<Listed<usize>, AllocError>
+    ensures { IfOk result (λ hits. hits ≡ option_to_list best) }
+{
+    match best {
+        Some(place) => Ok(Listed::of(vec![in alloc; place]?)),
+        None => Ok(Listed::new(alloc)),
+    }
 }
 
 // ---- what outputs and removals send

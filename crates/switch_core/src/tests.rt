@@ -101,6 +101,28 @@ fn take(switch: &mut Switch) -> Result<Outs, Fail> {
     Ok(switch.packet(1, &PACKET)?)
 }
 
+// Gives a switch the packet by port 1 as a plan that is carried out.
+fn take_by_plan(switch: &mut Switch) -> Result<Outs, Fail> {
+    if !PACKET.is_valid() {
+        return Err("the packet is valid".into());
+    }
+    let Planned { outs, counts } = switch.plan_packet(1, &PACKET)?;
+    switch.carry_out(counts);
+    Ok(outs)
+}
+
+// Gives a switch a PACKET_OUT as a plan that is carried out.
+fn give_by_plan(switch: &mut Switch, message: &Message) -> Result<Outs, Fail> {
+    if !message.is_valid() {
+        return Err("the message is valid".into());
+    }
+    let Some(Planned { outs, counts }) = switch.plan_message(message)? else {
+        return Err("a PACKET_OUT is planned".into());
+    };
+    switch.carry_out(counts);
+    Ok(outs)
+}
+
 // Lets seconds pass at a switch.
 fn tick(switch: &mut Switch, seconds: u32) -> Result<Outs, Fail> {
     if switch.now() > 1000 || seconds > 1000 {
@@ -406,6 +428,30 @@ fn packets_out(rt: HostRuntime) -> Result<(), Fail> {
     let mut switch = fresh(alloc);
     let missed = give(&mut switch, &packet_out(alloc, 9, OFPP_TABLE, &RECORD)?)?;
     assert!(rt; is_message(&missed, &arrival(alloc, 1, OFPR_NO_MATCH)?));
+    plans_are_steps(alloc)
+}
+
+// Fails where two answers do not send the same.
+fn send_same(one: &Outs, two: &Outs) -> Result<(), Fail> {
+    if one.up.same(&two.up) && one.out.as_slice() == two.out.as_slice() {
+        return Ok(());
+    }
+    Err("the same is sent".into())
+}
+
+// Fails where a plan that is carried out is not the step: here a packet and a PACKET_OUT to TABLE are told of, and counted.
+fn plans_are_steps(alloc: Global) -> Result<(), Fail> {
+    let mut switch = switch_to(alloc, OFPP_CONTROLLER)?;
+    let mut copy = copy_of(&switch)?;
+    let request = packet_out(alloc, 9, OFPP_TABLE, &RECORD)?;
+    send_same(&take(&mut switch)?, &take_by_plan(&mut copy)?)?;
+    send_same(
+        &give(&mut switch, &request)?,
+        &give_by_plan(&mut copy, &request)?,
+    )?;
+    if !are_same(switch.table().entries(), copy.table().entries()) {
+        return Err("the same is counted".into());
+    }
     Ok(())
 }
 
