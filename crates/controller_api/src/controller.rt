@@ -1,0 +1,42 @@
+//! The controller of some switches.
+ghost use Rattle.std.specs.Prelude.{◌≡◌, ◌<◌, ◌++◌, ◌^◌, ℕ, length, IfOk, OnOk, OnErr};
+ghost use Rattle.controller_api.specs.Reaction.{CountsPolicies, IsValidUpItem, Reaction};
+ghost use Rattle.controller_api.specs.declared.item.UpItem.{UpItem};
+
+use crate::item::UpItem;
+use crate::outbox::Outbox;
+use std::alloc::AllocError;
+
+/// A controller: a state that reacts to what it hears.
+///
+/// A contract sees three meanings of it: `react`, the state that it comes to at an item and the messages that it sends;
+/// `start`, the state with which it starts, which a state tells for itself; and `policies`, a number of its state that bounds
+/// how many policies it keeps.
+pub trait Controller: Send + Sync + Drop {
+    ghost react: { Self → UpItem → Reaction Self };
+
+    ghost start: { Self → Self };
+
+    ghost policies: { Self → ℕ };
+
+    /// The controller in the state with which it starts.
+    fn fresh(&self) -> Result<Self, AllocError>
+        ensures start { IfOk result (λ c. c ≡ start self.now) }
+        ensures policies { IfOk result (λ c. policies c ≡ 0) };
+
+    /// Hears an item, and puts what it sends to the end of `out`. After want of memory the controller and the messages are as
+    /// they were.
+    fn handle(&mut self, item: &UpItem, out: &mut Outbox) -> Result<(), AllocError>
+        requires item { IsValidUpItem item.now }
+        requires policies { policies self.old < 2 ^ 24 }
+        ensures state { OnOk result (self.new ≡ (react self.old item.now).state) }
+        ensures sent { OnOk result (out.new ≡ out.old ++ (react self.old item.now).sent) }
+        ensures few { OnOk result (length (react self.old item.now).sent < 2 ^ 32) }
+        ensures policies { OnOk result (CountsPolicies item.now (policies self.old) (policies self.new)) }
+        ensures err { OnErr result (self.new ≡ self.old) }
+        ensures unsent { OnErr result (out.new ≡ out.old) };
+
+    /// A second controller in the same state.
+    fn copy(&self) -> Result<Self, AllocError>
+        ensures { IfOk result (λ c. c ≡ self.now) };
+}
