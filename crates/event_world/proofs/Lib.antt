@@ -1,0 +1,15 @@
+pub mod Delivered
+pub mod EffectFits
+pub mod Effects
+pub mod Fitting
+pub mod Flushed
+pub mod Giving
+pub mod InputsFit
+pub mod Named
+pub mod Reading
+pub mod Rooms
+pub mod Sent
+pub mod Starting
+pub mod StatusKept
+pub mod Steps
+pub mod Within

@@ -1,0 +1,239 @@
+-- Room in the pools for mail, item by item, and what a put and a flush leave of it.
+use Rattle.std.proofs.Common.{◌≡◌, ◌∙◌, ℕ, ◌+◌, ◌^◌, ◌<◌, ◌≤◌, Bool, true, false, cond, List, [], ◌∷◌, filter_map, length, take, get_or, Option, Some, None, option_map, All, ap, arith, inl, inr, refl, subst, sym}
+use Rattle.std.specs.List.{enumerate_from}
+use Rattle.std.specs.Prelude.{IfSome, IsSome}
+use Rattle.std.proofs.lemmas.Bool.{both_ways, cases_Bool}
+use Rattle.std.proofs.lemmas.List.{length-append}
+use Rattle.std.proofs.lemmas.List.Elements.{All-head, All-map, All-tail, All-weaker}
+use Rattle.std.proofs.lemmas.List.Sums.{sum_by-cons, sum_by_more}
+use Rattle.message_pools.specs.Queue.{Queue, Reserved, empty_queue, flushed, next_number, rest_of, with_last}
+use Rattle.message_pools.specs.declared.item.Item.{Item}
+use Rattle.message_pools.specs.declared.item.Item.TheVariants as item
+use Rattle.of10_messages.specs.declared.message.Message.{Message}
+use Rattle.of10_messages.specs.declared.notice.Notice.TheVariants.{Join}
+use Rattle.pool_book.specs.Change.{is_itself, same_name}
+use Rattle.pool_book.specs.Names.{is_same, names}
+use Rattle.pool_book.specs.Pools.{HasRoomFor, Named, UsesRoom, changed, empty_pools, pool_of, queues, room_of}
+use Rattle.pool_book.specs.declared.name.PoolName.{PoolName}
+use Rattle.event_world.specs.Inputs.{tells}
+use Rattle.event_world.specs.Mail.{Mail, addressed, with_mail}
+use Rattle.event_world.specs.Room.{CanNumber, HasRoomForMail, KeepsRoom, count_for}
+use Rattle.event_world.specs.World.{first_joins, without_all}
+
+-- ---- names
+
+-- whether names are the same doesn't depend on their order
+same_back : (a b : PoolName) → is_same a b ≡ is_same b a
+same_back a b = elim (cases_Bool (is_same a b)) [
+  | inl holds ↦
+      let same : a ≡ b = same_name a b holds in
+      let back : is_same b a ≡ true = subst (λ o. is_same b o ≡ true) (sym same) (is_itself b) in
+      holds ∙ sym back
+  | inr fails ↦ elim (cases_Bool (is_same b a)) [
+    | inl back ↦
+        let same : b ≡ a = same_name b a back in
+        absurd (both_ways (is_same a b) fails (subst (λ o. is_same a o ≡ true) (sym same) (is_itself a)))
+    | inr not ↦ fails ∙ sym not
+  ]
+]
+
+-- a name has a pool where it has a queue
+pub there_by_queues : (name : PoolName) (pools : List (PoolName × Reserved)) → IsSome (pool_of name (queues pools)) → IsSome (pool_of name pools)
+there_by_queues name [] there = there
+there_by_queues name (pool ∷ pools) there = elim (cases_Bool (is_same name pool.0)) [
+  | inl holds ↦ rw holds refl
+  | inr fails ↦ let rest : IsSome (pool_of name (queues pools)) = rw fails at there in rw fails (there_by_queues name pools rest)
+]
+
+pub queue_there : (name : PoolName) (pools : List (PoolName × Reserved)) → IsSome (pool_of name pools) → IsSome (pool_of name (queues pools))
+queue_there name [] there = there
+queue_there name (pool ∷ pools) there = elim (cases_Bool (is_same name pool.0)) [
+  | inl holds ↦ rw holds refl
+  | inr fails ↦ let rest : IsSome (pool_of name pools) = rw fails at there in rw fails (queue_there name pools rest)
+]
+
+-- a change to a pool makes none
+pub there_before : {A : Type 0} (name other : PoolName) (change : A → A) (pools : List (PoolName × A)) → IsSome (pool_of other (changed name change pools)) → IsSome (pool_of other pools)
+there_before name other change [] there = there
+there_before name other change (pool ∷ pools) there = elim (cases_Bool (is_same other pool.0)) [
+  | inl also ↦ rw also refl
+  | inr not ↦ elim (cases_Bool (is_same name pool.0)) [
+    | inl holds ↦ let rest : IsSome (pool_of other (changed name change pools)) = rw (holds, not) at there in rw not (there_before name other change pools rest)
+    | inr fails ↦ let rest : IsSome (pool_of other (changed name change pools)) = rw (fails, not) at there in rw not (there_before name other change pools rest)
+  ]
+]
+
+-- a put makes no pool
+there_before_put : (name other : PoolName) (change : Queue → Queue) (before after : List (PoolName × Reserved)) → queues after ≡ changed name change (queues before) → IsSome (pool_of other after) → IsSome (pool_of other before)
+there_before_put name other change before after put there =
+    there_by_queues other before (there_before name other change (queues before) (subst (λ pools. IsSome (pool_of other pools)) put (queue_there other after there)))
+
+-- ---- room for mail
+
+-- there is room for one item of mail more
+pub room_more : (mail : Mail) (i : ℕ) (one : PoolName × Item) (before after : List (PoolName × Reserved)) → i < length mail → one ≡ get_or mail i one → HasRoomForMail (take i mail) before → queues after ≡ queues before
+    → (IsSome (pool_of one.0 before) → HasRoomFor one.0 1 before after) → HasRoomFor one.0 0 before after → HasRoomForMail (take (i + 1) mail) after
+room_more mail i one before after within at room same more kept name there =
+    let was : IsSome (pool_of name before) = there_by_queues name before (subst (λ pools. IsSome (pool_of name pools)) same (queue_there name after there)) in
+    let had : count_for name (take i mail) ≤ room_of name before = room name was in
+    let count : count_for name (take (i + 1) mail) ≡ count_for name (take i mail) + cond (is_same name one.0) 1 0 =
+    sum_by_more (λ (one : PoolName × Item). cond (is_same name one.0) 1 0) mail i one within
+    ∙ ap (λ (o : PoolName × Item). count_for name (take i mail) + cond (is_same name o.0) 1 0) (sym at) in
+    elim (cases_Bool (is_same name one.0)) [
+      | inl holds ↦
+          let is : name ≡ one.0 = same_name name one.0 holds in
+          let back : is_same one.0 name ≡ true = sym (same_back name one.0) ∙ holds in
+          let got = more (subst (λ n. IsSome (pool_of n before)) is was) name in
+          let got' : room_of name before + 1 ≤ room_of name after = rw back at got in
+          let count' : count_for name (take (i + 1) mail) ≡ count_for name (take i mail) + 1 = rw holds at count in
+          omega arith
+      | inr fails ↦
+          let back : is_same one.0 name ≡ false = sym (same_back name one.0) ∙ fails in
+          let got = kept name in
+          let got' : room_of name before + 0 ≤ room_of name after = rw back at got in
+          let count' : count_for name (take (i + 1) mail) ≡ count_for name (take i mail) + 0 = rw fails at count in
+          omega arith
+    ]
+
+-- the first item of mail counts for its own pool
+count_first : (name : PoolName) (one : PoolName × Item) (mail : Mail) (test : Bool) → is_same name one.0 ≡ test → count_for name (one ∷ mail) ≡ cond test 1 0 + count_for name mail
+count_first name one mail test is = sum_by-cons (λ (o : PoolName × Item). cond (is_same name o.0) 1 0) one mail ∙ ap (λ (t : Bool). cond t 1 0 + count_for name mail) is
+
+-- once the first item is put, there is room for the rest
+pub room_rest : (one : PoolName × Item) (mail : Mail) (change : Queue → Queue) (before after : List (PoolName × Reserved)) → HasRoomForMail (one ∷ mail) before → queues after ≡ changed one.0 change (queues before)
+    → UsesRoom one.0 1 before after → HasRoomForMail mail after
+room_rest one mail change before after room put used name there =
+    let was : IsSome (pool_of name before) = there_before_put one.0 name change before after put there in
+    let had : count_for name (one ∷ mail) ≤ room_of name before = room name was in
+    let left = used name in
+    elim (cases_Bool (is_same name one.0)) [
+      | inl holds ↦
+          let back : is_same one.0 name ≡ true = sym (same_back name one.0) ∙ holds in
+          let left' : room_of name before ≤ room_of name after + 1 = rw back at left in
+          let count : count_for name (one ∷ mail) ≡ 1 + count_for name mail = count_first name one mail true holds in
+          omega arith
+      | inr fails ↦
+          let back : is_same one.0 name ≡ false = sym (same_back name one.0) ∙ fails in
+          let left' : room_of name before ≤ room_of name after + 0 = rw back at left in
+          let count : count_for name (one ∷ mail) ≡ 0 + count_for name mail = count_first name one mail false fails in
+          omega arith
+    ]
+
+-- once an item is put into a pool, it has room for one less
+pub room_of_rest : (name : PoolName) (more : ℕ) (change : Queue → Queue) (before after : List (PoolName × Reserved)) → (IsSome (pool_of name before) → more + 1 ≤ room_of name before) → queues after ≡ changed name change (queues before)
+    → UsesRoom name 1 before after → IsSome (pool_of name after) → more ≤ room_of name after
+room_of_rest name more change before after room put used there =
+    let had : more + 1 ≤ room_of name before = room (there_before_put name name change before after put there) in
+    let left = used name in
+    let left' : room_of name before ≤ room_of name after + 1 = rw (is_itself name) at left in
+    omega arith
+
+-- ---- numbers
+
+-- what is so of each pool is so of the pool of a name
+at_pool : {A : Type 0} (P : A → Type 0) (name : PoolName) (pools : List (PoolName × A)) → All (λ pool. P pool.1) pools → IfSome (pool_of name pools) P
+at_pool P name [] all = tt
+at_pool P name (pool ∷ pools) all = elim (cases_Bool (is_same name pool.0)) [
+  | inl holds ↦ rw holds (All-head (λ pool. P pool.1) pool pools all)
+  | inr fails ↦ rw fails (at_pool P name pools (All-tail (λ pool. P pool.1) pool pools all))
+]
+
+-- the pool of a name can number one item more
+pub number_first : (name : PoolName) (more : ℕ) (pools : Named) → CanNumber (more + 1) pools → IfSome (pool_of name pools) (λ queue. next_number queue < 2 ^ 63)
+number_first name more pools all =
+    at_pool (λ queue. next_number queue < 2 ^ 63) name pools (All-weaker (λ (pool : PoolName × Queue). next_number pool.1 + (more + 1) ≤ 2 ^ 63) (λ pool. next_number pool.1 < 2 ^ 63) (λ pool can. omega arith) pools all)
+
+-- once an item is put, each pool can number one less
+number_put : (name : PoolName) (item : Item) (more : ℕ) (pool : PoolName × Queue) → next_number pool.1 + (more + 1) ≤ 2 ^ 63 → next_number (cond (is_same name pool.0) (pool.0, with_last pool.1 item) pool).1 + more ≤ 2 ^ 63
+number_put name item more pool can =
+    let long : length (with_last pool.1 item).items ≡ length pool.1.items + 1 = length-append pool.1.items (item ∷ []) in
+    elim (cases_Bool (is_same name pool.0)) [
+      | inl holds ↦ rw holds (omega arith)
+      | inr fails ↦ rw fails (omega arith)
+    ]
+
+pub number_rest : (name : PoolName) (item : Item) (more : ℕ) (pools : Named) → CanNumber (more + 1) pools → CanNumber more (changed name (λ queue. with_last queue item) pools)
+number_rest name item more pools all =
+    All-map (λ (pool : PoolName × Queue). next_number pool.1 + more ≤ 2 ^ 63) (λ (pool : PoolName × Queue). cond (is_same name pool.0) (pool.0, with_last pool.1 item) pool) pools
+    (All-weaker (λ (pool : PoolName × Queue). next_number pool.1 + (more + 1) ≤ 2 ^ 63) (λ (pool : PoolName × Queue). next_number (cond (is_same name pool.0) (pool.0, with_last pool.1 item) pool).1 + more ≤ 2 ^ 63)
+    (λ pool can. number_put name item more pool can) pools all)
+
+-- ---- room that is kept
+
+-- room that one call and then another keep is kept
+room_kept : (name : PoolName) (first before after : List (PoolName × Reserved)) → KeepsRoom first before → HasRoomFor name 0 before after → KeepsRoom first after
+room_kept name first before after kept more other =
+    let so_far : room_of other first ≤ room_of other before = kept other in
+    let here = more other in
+    elim (cases_Bool (is_same name other)) [
+      | inl holds ↦ let here' : room_of other before + 0 ≤ room_of other after = rw holds at here in omega arith
+      | inr fails ↦ let here' : room_of other before + 0 ≤ room_of other after = rw fails at here in omega arith
+    ]
+
+-- ---- messages that are lost
+
+-- messages that come to no pool change none
+lost : (messages : List Message) (pools : Named) → pools ≡ with_mail (filter_map (λ (message : Message). addressed None (item.Message message)) messages) pools
+lost [] pools = refl
+lost (message ∷ messages) pools = lost messages pools
+
+pub no_mail : (name : Option PoolName) (messages : List Message) (pools : Named) → name ≡ None → pools ≡ with_mail (filter_map (λ (message : Message). addressed name (item.Message message)) messages) pools
+no_mail name messages pools none = subst (λ name. pools ≡ with_mail (filter_map (λ (message : Message). addressed name (item.Message message)) messages) pools) (sym none) (lost messages pools)
+
+-- ---- changes before mail is put
+
+-- room for mail stays where a change to a pool keeps the room
+pub room_changed : (name : PoolName) (mail : Mail) (change : Queue → Queue) (before after : List (PoolName × Reserved)) → HasRoomForMail mail before → queues after ≡ changed name change (queues before)
+    → HasRoomFor name 0 before after → HasRoomForMail mail after
+room_changed name mail change before after room put kept other there =
+    let had = room other (there_before_put name other change before after put there) in
+    let left = room_kept name before before after (λ n. omega arith) kept other in
+    omega arith
+
+-- and each pool can number as many items as before, where the change gives the next item no greater number
+pub number_changed : (name : PoolName) (more : ℕ) (change : Queue → Queue) (pools : Named) → ((queue : Queue) → next_number (change queue) ≤ next_number queue) → CanNumber more pools → CanNumber more (changed name change pools)
+number_changed name more change pools lower all =
+    All-map (λ (pool : PoolName × Queue). next_number pool.1 + more ≤ 2 ^ 63) (λ (pool : PoolName × Queue). cond (is_same name pool.0) (pool.0, change pool.1) pool) pools
+    (All-weaker (λ (pool : PoolName × Queue). next_number pool.1 + more ≤ 2 ^ 63) (λ (pool : PoolName × Queue). next_number (cond (is_same name pool.0) (pool.0, change pool.1) pool).1 + more ≤ 2 ^ 63)
+    (λ pool can. elim (cases_Bool (is_same name pool.0)) [
+      | inl holds ↦ let low = lower pool.1 in rw holds (omega arith)
+      | inr fails ↦ rw fails can
+    ]) pools all)
+
+next_from : (first : ℕ) (items : List Item) → next_number (rest_of (record { first = first; items = items })) ≤ first + length items
+next_from first [] = omega arith
+next_from first (item ∷ items) = omega arith
+
+-- the number of the next item is as it was once an item is taken
+pub next_of_rest : (queue : Queue) → next_number (rest_of queue) ≤ next_number queue
+next_of_rest queue = next_from queue.first queue.items
+
+-- a flush makes no pool, and keeps what can be numbered
+there_before_flushes : (names : List PoolName) (other : PoolName) (pools : Named) → IsSome (pool_of other (without_all names pools)) → IsSome (pool_of other pools)
+there_before_flushes [] other pools there = there
+there_before_flushes (name ∷ names) other pools there = there_before name other flushed pools (there_before_flushes names other (changed name flushed pools) there)
+
+pub number_flushed : (names : List PoolName) (more : ℕ) (pools : Named) → CanNumber more pools → CanNumber more (without_all names pools)
+number_flushed [] more pools all = all
+number_flushed (name ∷ names) more pools all = number_flushed names more (changed name flushed pools) (number_changed name more flushed pools (λ queue. omega arith) all)
+
+pub room_flushed : (names : List PoolName) (mail : Mail) (before after : List (PoolName × Reserved)) → HasRoomForMail mail before → queues after ≡ without_all names (queues before) → KeepsRoom before after → HasRoomForMail mail after
+room_flushed names mail before after room put kept other there =
+    let was : IsSome (pool_of other before) =
+    there_by_queues other before (there_before_flushes names other (queues before) (subst (λ pools. IsSome (pool_of other pools)) put (queue_there other after there))) in
+    let had = room other was in
+    let left = kept other in
+    omega arith
+
+-- ---- the start
+
+few_join : (first : ℕ) (owners : List (Option ℕ)) → length (filter_map (λ (owner : ℕ × Option ℕ). option_map (λ (c : ℕ). tells owner.0 (Join 0)) owner.1) (enumerate_from first owners)) ≤ length owners
+few_join first [] = omega arith
+few_join first (None ∷ owners) = let rest = few_join (first + 1) owners in omega arith
+few_join first (Some c ∷ owners) = let rest = few_join (first + 1) owners in omega arith
+
+-- pools in which nothing waits can number a join of each switch
+pub number_joins : (ports : List ℕ) (controllers hosts : ℕ) (owners : List (Option ℕ)) → length owners < 2 ^ 16 → CanNumber (length (first_joins owners)) (empty_pools ports controllers hosts)
+number_joins ports controllers hosts owners few =
+    let joins = few_join 0 owners in
+    All-map (λ (pool : PoolName × Queue). next_number pool.1 + length (first_joins owners) ≤ 2 ^ 63) (λ (name : PoolName). (name, empty_queue)) (names ports controllers hosts) (λ k d within. omega arith)

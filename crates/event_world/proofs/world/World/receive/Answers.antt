@@ -1,0 +1,33 @@
+-- A host takes its first packet.
+use Rattle.std.proofs.Common.{◌≡◌, ◌<◌, length, subst, sym}
+use Rattle.pool_book.specs.Pools.{queues}
+use Rattle.event_world.specs.Shell.{shared_of}
+use Rattle.event_world.specs.World.{Situation}
+use Rattle.event_world.proofs.Giving.{fits_host, host_there, host_was}
+use Rattle.event_world.proofs.world.World.receive.Goals as goal
+
+pub count_one-requires : goal.count_one-requires
+count_one-requires g c =
+    let world = c.args.self.now in
+    let setup = c.args.setup.now in
+    let inside : Situation g.row.C.Denot = record { shared = shared_of c.self.inside.shell; switches = c.self.inside.switches; controllers = c.self.inside.controllers } in
+    let same : inside ≡ world = c.self.view_is in
+    subst (λ (w : Situation g.row.C.Denot). c.args.h < length w.shared.received) (sym same) (host_there setup.topology (length setup.controllers) c.args.h world.shared c.requires.fits.shared c.requires.head)
+
+pub returns-clause-ok : goal.returns-clause-ok
+returns-clause-ok g c =
+    let world = c.args.self.now in
+    let setup = c.args.setup.now in
+    let inside : Situation g.row.C.Denot = record { shared = shared_of c.self.inside.shell; switches = c.self.inside.switches; controllers = c.self.inside.controllers } in
+    let same : inside ≡ world = c.self.view_is in
+    let becomes = host_was g.C.Controller.react setup.topology c.args.h world inside (queues c.take.new.self) c.count_one.new.received same c.requires.head c.take.ensures.queues c.in_ok-count_one.ensures.ok in
+    becomes
+
+pub returns-clause-fits : goal.returns-clause-fits
+returns-clause-fits g c =
+    let world = c.args.self.now in
+    let setup = c.args.setup.now in
+    let inside : Situation g.row.C.Denot = record { shared = shared_of c.self.inside.shell; switches = c.self.inside.switches; controllers = c.self.inside.controllers } in
+    let same : inside ≡ world = c.self.view_is in
+    let becomes = host_was g.C.Controller.react setup.topology c.args.h world inside (queues c.take.new.self) c.count_one.new.received same c.requires.head c.take.ensures.queues c.in_ok-count_one.ensures.ok in
+    fits_host g.C.Controller.react g.C.Controller.policies setup c.args.h world _ c.requires.fits c.requires.head becomes

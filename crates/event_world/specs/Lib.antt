@@ -1,0 +1,9 @@
+pub mod Answers
+pub mod Events
+pub mod Fits
+pub mod Inputs
+pub mod Mail
+pub mod Plans
+pub mod Room
+pub mod Shell
+pub mod World
