@@ -10,8 +10,8 @@ use std::alloc::AllocError;
 /// A controller: a state that reacts to what it hears.
 ///
 /// A contract sees three meanings of it: `react`, the state that it comes to at an item and the messages that it sends;
-/// `start`, the state with which it starts, which a state tells for itself; and `policies`, a number of its state that bounds
-/// how many policies it keeps.
+/// `start`, the state with which it starts, which a state tells for itself; and `policies`, a number of its state that is 0
+/// at the start and rises by at most one with a policy, and by nothing else.
 pub trait Controller: Send + Sync + Drop {
     ghost react: { Self → UpItem → Reaction Self };
 

@@ -1,5 +1,5 @@
 -- What taking an item and delivering mail leave of a shared part that is one of a network.
-use Rattle.std.proofs.Common.{◌≡◌, ◌∙◌, ℕ, ◌+◌, ◌-◌, ◌*◌, ◌<◌, ◌≤◌, ◌^◌, true, false, cond, List, [], ◌∷◌, length, map, sum, sum_by, All, Option, Some, None, option_map, ap, arith, inl, inr, refl, subst}
+use Rattle.std.proofs.Common.{◌≡◌, ◌∙◌, ℕ, ◌+◌, ◌-◌, ◌*◌, ◌<◌, ◌≤◌, ◌^◌, true, false, cond, List, [], ◌∷◌, length, map, sum, sum_by, All, Option, Some, None, option_map, ap, arith, inl, inr, refl, subst, sym}
 use Rattle.std.specs.Option.{option_map_or}
 use Rattle.std.proofs.lemmas.Bool.{both_ways, cases_Bool}
 use Rattle.std.proofs.lemmas.List.{length_push, map_push}
@@ -19,8 +19,8 @@ use Rattle.event_world.specs.Fits.{IsDeliverable, IsItemOf, IsPool, IsShared, se
 use Rattle.event_world.specs.Mail.{Mail, Shared, with_mail}
 use Rattle.event_world.specs.Room.{CanNumber, count_for}
 use Rattle.event_world.specs.World.{counted, delivered, first_item, taken}
-use Rattle.pool_book.specs.Change.{is_itself, names_kept, pool_of_changed_other, pool_of_changed_same, same_name}
-use Rattle.event_world.proofs.Named.{all_named}
+use Rattle.pool_book.specs.Change.{names_kept, pool_of_changed_other, pool_of_changed_same, same_name}
+use Rattle.event_world.proofs.Named.{all_named, same_back}
 
 -- ---- what a pool holds
 
@@ -78,6 +78,7 @@ pub shared_taken : (topology : Topology) (controllers : ℕ) (name : PoolName) (
 shared_taken topology controllers name shared fits = record {
   status = fits.status;
   received = fits.received;
+  counts = fits.counts;
   names = names_kept name rest_of shared.pools ∙ fits.names;
   pools = let P = IsPool topology.ports shared.status shared.events in
       all_named P P name rest_of shared.pools fits.pools (λ pool h. h) (λ pool same h. rest_held topology.ports shared.status shared.events pool.0 pool.1.first pool.1.items h);
@@ -88,6 +89,7 @@ pub shared_delivered : (topology : Topology) (controllers inputs : ℕ) (mail : 
 shared_delivered topology controllers inputs mail shared fits each few = record {
   status = fits.status;
   received = fits.received;
+  counts = All-weaker (λ (count : ℕ). count ≤ shared.events) (λ count. count ≤ shared.events + 1) (λ count few. omega arith) shared.received fits.counts;
   names = names_with_mail mail shared.pools ∙ fits.names;
   pools =
       let most : ℕ = 1 + shared.events * (2 ^ 32 - 1) in
@@ -119,10 +121,7 @@ held_one measure weight name one pools adds = elim (cases_Bool (is_same name one
       subst (λ (n : PoolName). pool_of name (changed n (λ queue. with_last queue one.1) pools) ≡ option_map (λ queue. with_last queue one.1) (pool_of name pools)) (same_name name one.0 holds) (pool_of_changed_same name (λ queue. with_last queue one.1) pools) in
       rw (holds, here) (measure_put measure weight one.1 (pool_of name pools) adds)
   | inr fails ↦
-      let other : is_same one.0 name ≡ false = elim (cases_Bool (is_same one.0 name)) [
-        | inl also ↦ absurd (both_ways (is_same name one.0) fails (ap (is_same name) (same_name one.0 name also) ∙ is_itself name))
-        | inr not ↦ not
-      ] in
+      let other : is_same one.0 name ≡ false = sym (same_back name one.0) ∙ fails in
       let same = pool_of_changed_other one.0 name (λ queue. with_last queue one.1) pools other in
       rw (fails, same) (omega arith)
 ]
@@ -177,19 +176,19 @@ seconds_taken s number item shared first =
 pub policies_taken : (c number : ℕ) (item : Item) (shared : Shared) → first_item (Admin c) shared ≡ Some (number, item) → waiting_policies c (taken (Admin c) shared).pools + 1 ≡ waiting_policies c shared.pools
 policies_taken c number item shared first = held_taken (λ queue. length queue.items) (λ item. 1) (Admin c) number item shared (λ first item rest. omega arith) first
 
--- what is left of a queue, if there is one, counts no more
-measure_left : (measure : Queue → ℕ) (pool : Option Queue) → ((queue : Queue) → measure (rest_of queue) ≤ measure queue) → option_map_or measure (option_map rest_of pool) 0 ≤ option_map_or measure pool 0
-measure_left measure None loses = omega arith
-measure_left measure (Some queue) loses = loses queue
+-- a changed queue, if there is one, counts no more
+measure_changed : (measure : Queue → ℕ) (change : Queue → Queue) (pool : Option Queue) → ((queue : Queue) → measure (change queue) ≤ measure queue) → option_map_or measure (option_map change pool) 0 ≤ option_map_or measure pool 0
+measure_changed measure change None lower = omega arith
+measure_changed measure change (Some queue) lower = lower queue
 
--- taking from a pool adds to no pool
-pub held_left : (measure : Queue → ℕ) (other name : PoolName) (pools : Named) → ((queue : Queue) → measure (rest_of queue) ≤ measure queue) → held measure other (changed name rest_of pools) ≤ held measure other pools
-held_left measure other name pools loses = elim (cases_Bool (is_same name other)) [
+-- a change that adds to no queue adds to no pool
+pub held_changed : (measure : Queue → ℕ) (change : Queue → Queue) (other name : PoolName) (pools : Named) → ((queue : Queue) → measure (change queue) ≤ measure queue) → held measure other (changed name change pools) ≤ held measure other pools
+held_changed measure change other name pools lower = elim (cases_Bool (is_same name other)) [
   | inl holds ↦
-      let here : pool_of other (changed name rest_of pools) ≡ option_map rest_of (pool_of other pools) =
-      subst (λ (n : PoolName). pool_of n (changed name rest_of pools) ≡ option_map rest_of (pool_of n pools)) (same_name name other holds) (pool_of_changed_same name rest_of pools) in
-      rw here (measure_left measure (pool_of other pools) loses)
-  | inr fails ↦ let same = pool_of_changed_other name other rest_of pools fails in rw same (omega arith)
+      let here : pool_of other (changed name change pools) ≡ option_map change (pool_of other pools) =
+      subst (λ (n : PoolName). pool_of n (changed name change pools) ≡ option_map change (pool_of n pools)) (same_name name other holds) (pool_of_changed_same name change pools) in
+      rw here (measure_changed measure change (pool_of other pools) lower)
+  | inr fails ↦ let same = pool_of_changed_other name other change pools fails in rw same (omega arith)
 ]
 
 seconds_fall : (first : ℕ) (items : List Item) → sum (map seconds_of (rest_of (record { first = first; items = items })).items) ≤ sum (map seconds_of items)
@@ -198,11 +197,11 @@ seconds_fall first (item ∷ items) = let all = sum_by-cons (λ (n : ℕ). n) (s
 
 -- taking from a pool adds nothing to what waits elsewhere
 pub seconds_left : (s : ℕ) (name : PoolName) (shared : Shared) → waiting_seconds s (taken name shared).pools ≤ waiting_seconds s shared.pools
-seconds_left s name shared = held_left (λ queue. sum (map seconds_of queue.items)) (Note s) name shared.pools (λ queue. seconds_fall queue.first queue.items)
+seconds_left s name shared = held_changed (λ queue. sum (map seconds_of queue.items)) rest_of (Note s) name shared.pools (λ queue. seconds_fall queue.first queue.items)
 
 policies_fall : (first : ℕ) (items : List Item) → length (rest_of (record { first = first; items = items })).items ≤ length items
 policies_fall first [] = omega arith
 policies_fall first (item ∷ items) = omega arith
 
 pub policies_left : (c : ℕ) (name : PoolName) (shared : Shared) → waiting_policies c (taken name shared).pools ≤ waiting_policies c shared.pools
-policies_left c name shared = held_left (λ queue. length queue.items) (Admin c) name shared.pools (λ queue. policies_fall queue.first queue.items)
+policies_left c name shared = held_changed (λ queue. length queue.items) rest_of (Admin c) name shared.pools (λ queue. policies_fall queue.first queue.items)

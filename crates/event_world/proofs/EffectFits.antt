@@ -1,12 +1,12 @@
 -- The effect of an input is one that the network can take: its status, and its mail.
-use Rattle.std.proofs.Common.{◌≡◌, ℕ, ◌+◌, ◌==◌, ◌<◌, ◌≤◌, ◌&&◌, List, [], ◌∷◌, length, map, filter, get_or, filter_map, slice_get, slice_set, slice_index, All, Option, Some, None, Bool, true, false, not, is_none, option_and_then, if◌then◌else◌, ◌⊎◌, inl, inr, refl, sym, ap, ◌∙◌, subst, arith, zero, suc, le_refl, zero-add, cond}
-use Rattle.std.specs.List.{cons_option, enumerate_from, list_any}
+use Rattle.std.proofs.Common.{◌≡◌, ℕ, ◌+◌, ◌==◌, ◌<◌, ◌≤◌, ◌&&◌, List, [], ◌∷◌, length, map, filter, get_or, filter_map, slice_get, slice_set, slice_index, All, Option, Some, None, Bool, true, false, not, is_none, option_and_then, if◌then◌else◌, ◌⊎◌, inl, inr, refl, sym, ap, ◌∙◌, subst, arith, zero, suc, le_refl, zero-add}
+use Rattle.std.specs.List.{enumerate_from, list_any}
 use Rattle.std.specs.Option.{option_map_or}
 use Rattle.std.proofs.lemmas.Bool.{and_parts, both_ways, cases_Bool, cases_eq, cond_both, eq-eqb, ne_eqb, not-false}
 use Rattle.std.proofs.lemmas.List.Elements.{All-append, All-cons, All-filter, All-head, All-map, All-nil, All-tail, All-weaker, filter_passes}
 use Rattle.std.proofs.lemmas.List.Folds.{list_any_at}
 use Rattle.std.proofs.lemmas.List.FromFn.{get_or-enumerate_from, length-enumerate_from}
-use Rattle.std.proofs.lemmas.List.Sums.{sum_by-cons, sum_by-le}
+use Rattle.std.proofs.lemmas.List.Sums.{sum_by-cons}
 use Rattle.std.proofs.lemmas.List.{get_or_default}
 use Rattle.std.proofs.lemmas.Option.{cond_some, none-some, option_and_then_some, same_Some, unwrap_or-slice_get}
 use Rattle.listed.specs.Lists.{all_at}
@@ -28,6 +28,8 @@ use Rattle.topology.specs.Network.{IsPort, ends_of, far_end, is_place, joints}
 use Rattle.topology.specs.Status.{IsStatus, host_at, is_up}
 use Rattle.topology.specs.declared.network.Topology.{Topology}
 use Rattle.topology.specs.declared.status.Status.{Status}
+use Rattle.event_world.proofs.Lists.{all_given}
+use Rattle.event_world.proofs.Sent.{IsSent, IsSilent, no_policies, no_policy_to, no_seconds}
 use Rattle.event_world.proofs.StatusKept.{control_set, down_before, link_set, place_set, switch_set, up_set_other, up_set_same}
 use Rattle.event_world.specs.Fits.{IsDeliverable, IsNoticeOf, seconds_of, seconds_to}
 use Rattle.event_world.specs.Inputs.{channel_down, channel_up, down_mask, effect, ends_at, has_owner, host_moves, injected, is_open, joins, link_down, link_up, no_effect, pools_of, ports_of, seconds_pass, sends_only, switch_comes, switch_fails, tells, tells_gone, tells_neighbours}
@@ -46,69 +48,49 @@ pub record IsEffect (topology : Topology) (before : Status) (change : Effect) : 
 
 -- ---- mail that tells neither of seconds nor of policies
 
--- an item that may be put into its pool, and is neither a number of seconds nor a policy
-record IsPlain (ports : List ℕ) (status : Status) (one : PoolName × Item) : Type 0 where
-  deliverable : IsDeliverable ports status one
-  seconds : seconds_of one.1 ≡ 0
-  policy : (c : ℕ) → is_same (Admin c) one.0 ≡ false
-
-plain_seconds : (ports : List ℕ) (status : Status) (s : ℕ) (mail : Mail) → All (IsPlain ports status) mail → seconds_to s mail ≤ 0
-plain_seconds ports status s mail all =
-    let terms = All-weaker (IsPlain ports status) (λ one. (if is_same (Note s) one.0 then seconds_of one.1 else 0) ≤ 0)
-    (λ one plain. cond_both (is_same (Note s) one.0) (seconds_of one.1) 0 (λ n. n ≤ 0) (λ e. let z = plain.seconds in omega arith) (λ e. le_refl 0)) mail all in
-    let bound = sum_by-le (λ (one : PoolName × Item). if is_same (Note s) one.0 then seconds_of one.1 else 0) 0 mail terms in
-    omega arith
-
-no_policies : (c : ℕ) (mail : Mail) → All (λ one. is_same (Admin c) one.0 ≡ false) mail → count_for (Admin c) mail ≤ 0
-no_policies c mail all =
-    let terms = All-weaker (λ (one : PoolName × Item). is_same (Admin c) one.0 ≡ false) (λ one. cond (is_same (Admin c) one.0) 1 0 ≤ 0) (λ one no. rw no (le_refl 0)) mail all in
-    let bound = sum_by-le (λ (one : PoolName × Item). cond (is_same (Admin c) one.0) 1 0) 0 mail terms in
-    omega arith
-
--- an effect whose mail is plain
+-- an effect whose mail may be sent by an actor too
 plain_effect : (topology : Topology) (before : Status) (change : Effect) → IsStatus topology change.status
     → ((s : ℕ) → is_up change.status.switch_up s ≡ false → (is_up before.switch_up s ≡ false) ⊎ (change.flushes ≡ pools_of topology s))
-    → All (IsPlain topology.ports change.status) change.mail → IsEffect topology before change
+    → All (IsSent topology.ports change.status) change.mail → IsEffect topology before change
 plain_effect topology before change is downs all = record {
   status = is;
   downs = downs;
-  mail = All-weaker (IsPlain topology.ports change.status) (IsDeliverable topology.ports change.status) (λ one plain. plain.deliverable) change.mail all;
-  seconds = λ s. let none = plain_seconds topology.ports change.status s change.mail all in omega arith;
-  policies = λ c. let none = no_policies c change.mail (All-weaker (IsPlain topology.ports change.status) (λ one. is_same (Admin c) one.0 ≡ false) (λ one plain. plain.policy c) change.mail all) in omega arith;
+  mail = All-weaker (IsSent topology.ports change.status) (IsDeliverable topology.ports change.status) (λ one h. h.deliverable) change.mail all;
+  seconds = λ s. let none = no_seconds s change.mail (All-weaker (IsSent topology.ports change.status) IsSilent (λ one h. h.silent) change.mail all) in omega arith;
+  policies = λ c. let none = no_policies c change.mail (All-weaker (IsSent topology.ports change.status) IsSilent (λ one h. h.silent) change.mail all) in omega arith;
 }
 
 -- nothing but the status changes, and no switch goes down
 quiet_effect : (topology : Topology) (before after : Status) → IsStatus topology after → ((s : ℕ) → is_up after.switch_up s ≡ false → is_up before.switch_up s ≡ false) → IsEffect topology before (no_effect after)
-quiet_effect topology before after is stays = plain_effect topology before (no_effect after) is (λ s down. inl (stays s down)) (All-nil (IsPlain topology.ports after))
+quiet_effect topology before after is stays = plain_effect topology before (no_effect after) is (λ s down. inl (stays s down)) (All-nil (IsSent topology.ports after))
 
 -- ---- what may be told
 
 -- a switch that is up is told of a port of its own, or to join
 plain_notice : (ports : List ℕ) (status : Status) (s : ℕ) (notice : Notice) → IsNoticeOf (slice_index ports s) notice → seconds_of (item.Notice notice) ≡ 0 → is_up status.switch_up s ≡ true
-    → IsPlain ports status (tells s notice)
+    → IsSent ports status (tells s notice)
 plain_notice ports status s notice kind none up = record {
   deliverable = record { kind = kind; up = λ t here. let same : s ≡ t = same_Some s t here in subst (λ (n : ℕ). is_up status.switch_up n ≡ true) same up };
-  seconds = none;
-  policy = λ c. refl;
+  silent = record { seconds = none; policy = λ c. refl };
 }
 
 -- a controller is told that the channel to a switch is gone
-plain_gone : (ports : List ℕ) (status : Status) (s : ℕ) (owner : Option ℕ) → All (IsPlain ports status) (option_map_or (λ c. (App c s, item.Gone) ∷ []) owner [])
-plain_gone ports status s None = All-nil (IsPlain ports status)
-plain_gone ports status s (Some c) = All-cons (IsPlain ports status) (App c s, item.Gone) []
-    (record { deliverable = record { kind = tt; up = λ t here. absurd (none-some t here) }; seconds = refl; policy = λ d. refl })
-    (All-nil (IsPlain ports status))
+plain_gone : (ports : List ℕ) (status : Status) (s : ℕ) (owner : Option ℕ) → All (IsSent ports status) (option_map_or (λ c. (App c s, item.Gone) ∷ []) owner [])
+plain_gone ports status s None = All-nil (IsSent ports status)
+plain_gone ports status s (Some c) = All-cons (IsSent ports status) (App c s, item.Gone) []
+    (record { deliverable = record { kind = tt; up = λ t here. absurd (none-some t here) }; silent = record { seconds = refl; policy = λ d. refl } })
+    (All-nil (IsSent ports status))
 
 -- a switch that is up is told to join
-plain_join : (ports : List ℕ) (status : Status) (s mask : ℕ) (owner : Option ℕ) → is_up status.switch_up s ≡ true → All (IsPlain ports status) (option_map_or (λ c. tells s (Join mask) ∷ []) owner [])
-plain_join ports status s mask None up = All-nil (IsPlain ports status)
-plain_join ports status s mask (Some c) up = All-cons (IsPlain ports status) (tells s (Join mask)) [] (plain_notice ports status s (Join mask) tt refl up) (All-nil (IsPlain ports status))
+plain_join : (ports : List ℕ) (status : Status) (s mask : ℕ) (owner : Option ℕ) → is_up status.switch_up s ≡ true → All (IsSent ports status) (option_map_or (λ c. tells s (Join mask) ∷ []) owner [])
+plain_join ports status s mask None up = All-nil (IsSent ports status)
+plain_join ports status s mask (Some c) up = All-cons (IsSent ports status) (tells s (Join mask)) [] (plain_notice ports status s (Join mask) tt refl up) (All-nil (IsSent ports status))
 
-plain_joins : (topology : Topology) (status : Status) (s : ℕ) → is_up status.switch_up s ≡ true → All (IsPlain topology.ports status) (joins topology status s)
+plain_joins : (topology : Topology) (status : Status) (s : ℕ) → is_up status.switch_up s ≡ true → All (IsSent topology.ports status) (joins topology status s)
 plain_joins topology status s up =
-    cond_both (is_up status.control_up s) (option_map_or (λ c. tells s (Join (down_mask topology status s)) ∷ []) (owner_of topology s) []) [] (All (IsPlain topology.ports status))
+    cond_both (is_up status.control_up s) (option_map_or (λ c. tells s (Join (down_mask topology status s)) ∷ []) (owner_of topology s) []) [] (All (IsSent topology.ports status))
     (λ e. plain_join topology.ports status s (down_mask topology status s) (owner_of topology s) up)
-    (λ e. All-nil (IsPlain topology.ports status))
+    (λ e. All-nil (IsSent topology.ports status))
 
 -- ---- links
 
@@ -134,45 +116,36 @@ joints_ports ports first (ends ∷ links) all =
     All-cons P ((ends.0, ends.1), (first, ends.2, ends.3)) (((ends.2, ends.3), (first, ends.0, ends.1)) ∷ joints (first + 1) links) other
     (All-cons P ((ends.2, ends.3), (first, ends.0, ends.1)) (joints (first + 1) links) one rest)
 
--- what holds of each image of the elements holds of each that is kept
-all_kept_cons : {B : Type 0} (P : B → Type 0) (o : Option B) (ys : List B) → ((y : B) → o ≡ Some y → P y) → All P ys → All P (cons_option o ys)
-all_kept_cons P None ys each all = all
-all_kept_cons P (Some y) ys each all = All-cons P y ys (each y refl) all
-
-all_kept : {A B : Type 0} (Q : A → Type 0) (P : B → Type 0) (f : A → Option B) (xs : List A) → ((x : A) (y : B) → Q x → f x ≡ Some y → P y) → All Q xs → All P (filter_map f xs)
-all_kept Q P f [] each all = All-nil P
-all_kept Q P f (x ∷ xs) each all = all_kept_cons P (f x) (filter_map f xs) (λ y e. each x y (All-head Q x xs all) e) (all_kept Q P f xs each (All-tail Q x xs all))
-
 -- the other end of the link at a port is a port
 far_port : (topology : Topology) (s p : ℕ) (far : ℕ × ℕ × ℕ) → All (IsPort topology.ports) (ends_of topology.links) → far_end topology s p ≡ Some far → IsPort topology.ports (far.1, far.2)
 far_port topology s p far all e =
     let P : ℕ × ℕ × ℕ → Type 0 = λ far. IsPort topology.ports (far.1, far.2) in
     let f : (ℕ × ℕ) × (ℕ × ℕ × ℕ) → Option (ℕ × ℕ × ℕ) = λ joint. if is_place s p joint.0 then Some joint.1 else None in
-    let each = all_kept (λ (joint : (ℕ × ℕ) × (ℕ × ℕ × ℕ)). IsPort topology.ports (joint.1.1, joint.1.2)) P f (joints 0 topology.links)
-    (λ joint y port got. subst P ((cond_some (is_place s p joint.0) joint.1 y got).1) port) (joints_ports topology.ports 0 topology.links all) in
+    let each = all_given (λ (joint : (ℕ × ℕ) × (ℕ × ℕ × ℕ)). IsPort topology.ports (joint.1.1, joint.1.2)) P f (joints 0 topology.links) (joints_ports topology.ports 0 topology.links all)
+    (λ joint y port got. subst P ((cond_some (is_place s p joint.0) joint.1 y got).1) port) in
     all_at P (filter_map f (joints 0 topology.links)) 0 far each e
 
 -- the neighbours that are told are up
 neighbour_told : (topology : Topology) (status : Status) (s : ℕ) (down : Bool) (port : ℕ) (one : PoolName × Item) → All (IsPort topology.ports) (ends_of topology.links)
-    → option_and_then (λ far. if is_open status far then Some (tells far.1 (Port far.2 down)) else None) (far_end topology s port) ≡ Some one → IsPlain topology.ports status one
+    → option_and_then (λ far. if is_open status far then Some (tells far.1 (Port far.2 down)) else None) (far_end topology s port) ≡ Some one → IsSent topology.ports status one
 neighbour_told topology status s down port one all e =
     option_and_then_some (λ (far : ℕ × ℕ × ℕ). if is_open status far then Some (tells far.1 (Port far.2 down)) else None) (far_end topology s port) one e (λ far found got.
     let told = cond_some (is_open status far) (tells far.1 (Port far.2 down)) one got in
     let at : IsPort topology.ports (far.1, far.2) = far_port topology s port far all found in
     let up = and_parts (is_up status.link_up far.0) (is_up status.switch_up far.1) told.0 in
-    subst (IsPlain topology.ports status) told.1 (plain_notice topology.ports status far.1 (Port far.2 down) (at.1, at.2) refl up.1))
+    subst (IsSent topology.ports status) told.1 (plain_notice topology.ports status far.1 (Port far.2 down) (at.1, at.2) refl up.1))
 
-plain_neighbours : (topology : Topology) (status : Status) (s : ℕ) (down : Bool) → All (IsPort topology.ports) (ends_of topology.links) → All (IsPlain topology.ports status) (tells_neighbours topology status s down)
+plain_neighbours : (topology : Topology) (status : Status) (s : ℕ) (down : Bool) → All (IsPort topology.ports) (ends_of topology.links) → All (IsSent topology.ports status) (tells_neighbours topology status s down)
 plain_neighbours topology status s down all =
-    all_kept (λ (port : ℕ). Unit {0}) (IsPlain topology.ports status)
+    all_given (λ (port : ℕ). Unit {0}) (IsSent topology.ports status)
     (λ port. option_and_then (λ far. if is_open status far then Some (tells far.1 (Port far.2 down)) else None) (far_end topology s port)) (ports_of topology s)
-    (λ port one any e. neighbour_told topology status s down port one all e) (λ k d lt. tt)
+    (λ k d lt. tt) (λ port one any e. neighbour_told topology status s down port one all e)
 
 -- the ends at switches that are up are told
 plain_ends : (ports : List ℕ) (status : Status) (down : Bool) (ends : List (ℕ × ℕ)) → All (IsPort ports) ends → All (λ end. is_up status.switch_up end.0 ≡ true) ends
-    → All (IsPlain ports status) (map (λ end. tells end.0 (Port end.1 down)) ends)
+    → All (IsSent ports status) (map (λ end. tells end.0 (Port end.1 down)) ends)
 plain_ends ports status down ends each up =
-    All-map (IsPlain ports status) (λ (end : ℕ × ℕ). tells end.0 (Port end.1 down)) ends
+    All-map (IsSent ports status) (λ (end : ℕ × ℕ). tells end.0 (Port end.1 down)) ends
     (λ k d lt. let at = each k d lt in plain_notice ports status (get_or ends k d).0 (Port (get_or ends k d).1 down) (at.1, at.2) refl (up k d lt))
 
 -- where no element passes a test, each fails it
@@ -196,8 +169,8 @@ link_up_fits topology status link is =
     let after = (link_up topology status link).status in
     let test : ℕ × ℕ → Bool = λ end. not (is_up status.switch_up end.0) in
     plain_effect topology status (link_up topology status link) (link_set topology status link true is) (λ s down. inl down)
-    (cond_both (list_any test ends) [] (map (λ (end : ℕ × ℕ). tells end.0 (Port end.1 false)) ends) (All (IsPlain topology.ports after))
-    (λ e. All-nil (IsPlain topology.ports after))
+    (cond_both (list_any test ends) [] (map (λ (end : ℕ × ℕ). tells end.0 (Port end.1 false)) ends) (All (IsSent topology.ports after))
+    (λ e. All-nil (IsSent topology.ports after))
     (λ e. plain_ends topology.ports after false ends (ends_ports topology.ports topology.links link is.ends)
     (λ k d lt. not-false (is_up status.switch_up (get_or ends k d).0) (none_passes test ends e k d lt))))
 
@@ -211,8 +184,8 @@ switch_fails_fits topology status s is =
       | inl same ↦ inr (ap (pools_of topology) (sym same))
       | inr other ↦ inl (sym (up_set_other status.switch_up s t false other) ∙ down)
     ])
-    (All-append (IsPlain topology.ports after) (if is_up status.control_up s then tells_gone topology s else []) (tells_neighbours topology after s true)
-    (cond_both (is_up status.control_up s) (tells_gone topology s) [] (All (IsPlain topology.ports after)) (λ e. plain_gone topology.ports after s (owner_of topology s)) (λ e. All-nil (IsPlain topology.ports after)))
+    (All-append (IsSent topology.ports after) (if is_up status.control_up s then tells_gone topology s else []) (tells_neighbours topology after s true)
+    (cond_both (is_up status.control_up s) (tells_gone topology s) [] (All (IsSent topology.ports after)) (λ e. plain_gone topology.ports after s (owner_of topology s)) (λ e. All-nil (IsSent topology.ports after)))
     (plain_neighbours topology after s true is.ends))
 
 switch_comes_fits : (topology : Topology) (status : Status) (s : ℕ) → IsStatus topology status → s < length topology.ports → IsEffect topology status (switch_comes topology status s)
@@ -222,29 +195,28 @@ switch_comes_fits topology status s is within =
     let short : s < length status.switch_up = omega arith in
     plain_effect topology status (switch_comes topology status s) (switch_set topology status s true is)
     (λ t down. inl (down_before status.switch_up s t short down))
-    (All-append (IsPlain topology.ports after) (tells_neighbours topology after s false) (joins topology after s)
+    (All-append (IsSent topology.ports after) (tells_neighbours topology after s false) (joins topology after s)
     (plain_neighbours topology after s false is.ends) (plain_joins topology after s (up_set_same status.switch_up s true short)))
 
 channel_down_fits : (topology : Topology) (status : Status) (s : ℕ) → IsStatus topology status → IsEffect topology status (channel_down topology status s)
 channel_down_fits topology status s is =
     let after = (channel_down topology status s).status in
     plain_effect topology status (channel_down topology status s) (control_set topology status s false is) (λ t down. inl down)
-    (cond_both (is_up status.switch_up s) (tells_gone topology s) [] (All (IsPlain topology.ports after)) (λ e. plain_gone topology.ports after s (owner_of topology s)) (λ e. All-nil (IsPlain topology.ports after)))
+    (cond_both (is_up status.switch_up s) (tells_gone topology s) [] (All (IsSent topology.ports after)) (λ e. plain_gone topology.ports after s (owner_of topology s)) (λ e. All-nil (IsSent topology.ports after)))
 
 channel_up_fits : (topology : Topology) (status : Status) (s : ℕ) → IsStatus topology status → IsEffect topology status (channel_up topology status s)
 channel_up_fits topology status s is =
     let after = (channel_up topology status s).status in
     plain_effect topology status (channel_up topology status s) (control_set topology status s true is) (λ t down. inl down)
-    (cond_both (is_up status.switch_up s) (joins topology after s) [] (All (IsPlain topology.ports after)) (λ e. plain_joins topology after s e) (λ e. All-nil (IsPlain topology.ports after)))
+    (cond_both (is_up status.switch_up s) (joins topology after s) [] (All (IsSent topology.ports after)) (λ e. plain_joins topology after s e) (λ e. All-nil (IsSent topology.ports after)))
 
 -- ---- hosts, policies and seconds
 
 -- a packet comes to a switch that is up
-plain_packet : (ports : List ℕ) (status : Status) (packet : Packet) (place : ℕ × ℕ) → IsValidPacket packet → is_up status.switch_up place.0 ≡ true → IsPlain ports status (Pkt place.0 place.1, item.Packet packet)
+plain_packet : (ports : List ℕ) (status : Status) (packet : Packet) (place : ℕ × ℕ) → IsValidPacket packet → is_up status.switch_up place.0 ≡ true → IsSent ports status (Pkt place.0 place.1, item.Packet packet)
 plain_packet ports status packet place valid up = record {
   deliverable = record { kind = valid; up = λ t here. let same : place.0 ≡ t = same_Some place.0 t here in subst (λ (n : ℕ). is_up status.switch_up n ≡ true) same up };
-  seconds = refl;
-  policy = λ c. refl;
+  silent = record { seconds = refl; policy = λ c. refl };
 }
 
 injected_fits : (topology : Topology) (status : Status) (packet : Packet) (place : Option (ℕ × ℕ)) → IsStatus topology status → IsValidPacket packet → IsEffect topology status (injected status packet place)
@@ -252,7 +224,7 @@ injected_fits topology status packet None is valid = quiet_effect topology statu
 injected_fits topology status packet (Some place) is valid =
     let sent = sends_only status ((Pkt place.0 place.1, item.Packet packet) ∷ []) in
     cond_both (is_up status.switch_up place.0) sent (no_effect status) (IsEffect topology status)
-    (λ e. plain_effect topology status sent is (λ s down. inl down) (All-cons (IsPlain topology.ports status) (Pkt place.0 place.1, item.Packet packet) [] (plain_packet topology.ports status packet place valid e) (All-nil (IsPlain topology.ports status))))
+    (λ e. plain_effect topology status sent is (λ s down. inl down) (All-cons (IsSent topology.ports status) (Pkt place.0 place.1, item.Packet packet) [] (plain_packet topology.ports status packet place valid e) (All-nil (IsSent topology.ports status))))
     (λ e. quiet_effect topology status status is (λ s down. down))
 
 host_moves_fits : (topology : Topology) (status : Status) (host : ℕ) (place : ℕ × ℕ) → IsStatus topology status → IsFreePort topology place → IsEffect topology status (host_moves status host place)
@@ -325,7 +297,7 @@ seconds_fit topology status n is few =
         up = λ t here. let same : (get_or switches k d).0 ≡ t = same_Some (get_or switches k d).0 t here in subst (λ (m : ℕ). is_up status.switch_up m ≡ true) same (ups k d lt (set k d lt));
       });
       seconds = λ s. let once = ticks_once s n 0 status.switch_up in omega arith;
-      policies = λ c. let none = no_policies c (tick_mail n 0 status.switch_up) (All-map (λ (one : PoolName × Item). is_same (Admin c) one.0 ≡ false) (λ (switch : ℕ × Bool). tells switch.0 (Tick n)) switches (λ k d lt. refl)) in omega arith;
+      policies = λ c. let none = no_policy_to c (tick_mail n 0 status.switch_up) (All-map (λ (one : PoolName × Item). is_same (Admin c) one.0 ≡ false) (λ (switch : ℕ × Bool). tells switch.0 (Tick n)) switches (λ k d lt. refl)) in omega arith;
     }
 
 -- ---- all inputs

@@ -1,9 +1,9 @@
 -- The world that a setup starts with fits it, and each step of an actor keeps that.
-use Rattle.std.proofs.Common.{◌≡◌, ◌∙◌, ◌⊎◌, ℕ, ◌+◌, ◌<◌, ◌≤◌, ◌^◌, List, [], ◌∷◌, ◌++◌, length, map, slice_get, slice_set, zero, suc, Some, sum, All, ap, arith, inl, inr, refl, subst, subst₂, sym}
+use Rattle.std.proofs.Common.{◌≡◌, ◌∙◌, ℕ, ◌+◌, ◌<◌, ◌≤◌, ◌^◌, List, [], ◌++◌, length, map, slice_get, slice_set, Some, sum, All, arith, inl, inr, refl, subst, subst₂, sym}
 use Rattle.std.proofs.lemmas.List.{length-append, length-map, length-set}
 use Rattle.std.proofs.lemmas.List.Elements.{All-append, All-map, All-nil, All-weaker}
 use Rattle.std.proofs.lemmas.Option.{same_Some}
-use Rattle.listed.specs.Lists.{all_at, length_changed}
+use Rattle.listed.specs.Lists.{all_at, all_changed, length_changed}
 use Rattle.of10_match.specs.Packet.{IsValidPacket}
 use Rattle.of10_messages.specs.Valid.{IsValidMessage}
 use Rattle.controller_api.specs.Reaction.{AreValidMessages, CountsPolicies, Reaction}
@@ -25,19 +25,10 @@ use Rattle.event_world.specs.Fits.{Fits, IsDeliverable, IsItemOf, IsSwitchOf, se
 use Rattle.event_world.specs.Mail.{Mail, Shared, mail_down, mail_out, mail_up}
 use Rattle.event_world.specs.World.{Situation, by_controller, by_switch, counted, counted_world, delivered, first_item, first_joins, heard_by, received_by, start, taken}
 use Rattle.event_world.proofs.Delivered.{policies_delivered, policies_left, policies_taken, seconds_delivered, seconds_left, seconds_taken, shared_delivered, shared_taken}
+use Rattle.event_world.proofs.Lists.{get_set}
 use Rattle.event_world.proofs.Sent.{IsSent, IsSilent, length_down, length_out, length_up, mail_down_sent, mail_out_sent, mail_up_sent, no_policies, no_seconds}
 use Rattle.event_world.proofs.Starting.{held_empty, joins_silent, length_switches, shared_start, started_switch}
 use Rattle.event_world.proofs.Within.{item_kind}
-
--- ---- lists
-
--- after a write, what stands somewhere stood there before, or it was written at that place
-get_set : {A : Type 0} (xs : List A) (n : ℕ) (y : A) (k : ℕ) (z : A) → slice_get (slice_set xs n y) k ≡ Some z → (slice_get xs k ≡ Some z) ⊎ ((k ≡ n) × (z ≡ y))
-get_set [] n y k z e = absurd cc
-get_set (x ∷ xs) zero y zero z e = inr (refl, sym (same_Some y z e))
-get_set (x ∷ xs) zero y (suc k) z e = inl e
-get_set (x ∷ xs) (suc n) y zero z e = inl e
-get_set (x ∷ xs) (suc n) y (suc k) z e = elim (get_set xs n y k z e) [ inl h ↦ inl h | inr h ↦ inr (ap suc h.0, h.1) ]
 
 -- ---- what the first item counts
 
@@ -184,6 +175,9 @@ module _ {C : Type 0} (policies : C → ℕ) where
         shared = record {
           status = shared.status;
           received = length_changed h (λ count. count + 1) world.shared.received ∙ shared.received;
+          counts =
+              let events = world.shared.events in
+              all_changed (λ (count : ℕ). count ≤ events) (λ count. count ≤ events + 1) h (λ count. count + 1) world.shared.received fits.shared.counts (λ count few. omega arith) (λ count at few. omega arith);
           names = shared.names;
           pools = shared.pools;
         };

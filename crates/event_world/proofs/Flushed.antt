@@ -1,22 +1,25 @@
 -- What throwing away what waits in some pools leaves.
 use Rattle.std.proofs.Common.{◌≡◌, ℕ, ◌+◌, ◌-◌, ◌<◌, ◌≤◌, List, [], ◌∷◌, ◌++◌, length, map, get_or, flat_map, slice_index, All, Contains, Some, Bool, true, false, if◌then◌else◌, refl, sym, ap, ◌∙◌, subst, arith, zero, suc, zero-add, le_trans, le_refl}
 use Rattle.std.specs.List.{enumerate_from, range_with_len}
-use Rattle.std.specs.Option.{option_map_or}
-use Rattle.std.proofs.lemmas.Bool.{cond_both, eq-eqb, and_from, both_ways}
+use Rattle.std.proofs.lemmas.Bool.{both_ways}
 use Rattle.std.proofs.lemmas.List.{get_or_default}
 use Rattle.std.proofs.lemmas.Option.{none-some, same_Some}
-use Rattle.std.proofs.lemmas.List.Elements.{All-map, All-nil, All-append, All-head, All-tail, All-weaker, Contains-append_left, Contains-append_right}
+use Rattle.std.proofs.lemmas.List.Elements.{All-map, All-append, Contains-append_left, Contains-append_right}
 use Rattle.std.proofs.lemmas.List.FromFn.{get_or-map-range_with_len, length-map-range_with_len, get_or-range_with_len, length-range_with_len, get_or-enumerate_from, length-enumerate_from}
 use Rattle.listed.specs.Lists.{all_unmapped}
 use Rattle.message_pools.specs.Queue.{Queue, flushed}
+use Rattle.pool_book.specs.Change.{is_itself, names_kept}
 use Rattle.pool_book.specs.Names.{is_same, names}
-use Rattle.pool_book.specs.Pools.{Named, changed, pool_of}
+use Rattle.pool_book.specs.Pools.{Named, changed}
 use Rattle.pool_book.specs.declared.name.PoolName.{PoolName}
 use Rattle.pool_book.specs.declared.name.PoolName.TheVariants.{Ctl, Pkt, Note, App, Admin, Recv}
 use Rattle.topology.specs.declared.network.Topology.{Topology}
 use Rattle.event_world.specs.Fits.{switch_of}
 use Rattle.event_world.specs.Inputs.{app_of, pools_of, ports_of}
 use Rattle.event_world.specs.World.{without_all}
+use Rattle.event_world.proofs.Delivered.{held, held_changed}
+use Rattle.event_world.proofs.Lists.{all_joined}
+use Rattle.event_world.proofs.Named.{all_named}
 
 -- ---- one pool
 
@@ -24,26 +27,16 @@ use Rattle.event_world.specs.World.{without_all}
 abbrev emptied : PoolName → PoolName × Queue → PoolName × Queue
 emptied name pool = if is_same name pool.0 then (pool.0, flushed pool.1) else pool
 
--- a name is the same as itself
-same_itself : (name : PoolName) → is_same name name ≡ true
-same_itself (Ctl s) = eq-eqb s s refl
-same_itself (Pkt s p) = and_from _ _ (eq-eqb s s refl) (eq-eqb p p refl)
-same_itself (Note s) = eq-eqb s s refl
-same_itself (App c s) = and_from _ _ (eq-eqb c c refl) (eq-eqb s s refl)
-same_itself (Admin c) = eq-eqb c c refl
-same_itself (Recv h) = eq-eqb h h refl
-
 -- the pool of the name is empty afterwards
 emptied_is_empty : (name : PoolName) (pool : PoolName × Queue) (same : Bool) → is_same name pool.0 ≡ same → (emptied name pool).0 ≡ name → (emptied name pool).1.items ≡ []
 emptied_is_empty name pool true e here = rw e refl
 emptied_is_empty name pool false e here =
     let named : pool.0 ≡ name = subst (λ (b : Bool). (if b then (pool.0, flushed pool.1) else pool).0 ≡ name) e here in
-    absurd (both_ways (is_same name pool.0) e (subst (λ (other : PoolName). is_same name other ≡ true) (sym named) (same_itself name)))
+    absurd (both_ways (is_same name pool.0) e (subst (λ (other : PoolName). is_same name other ≡ true) (sym named) (is_itself name)))
 
 -- what flushing keeps of a pool is kept by a flush of pools
 pub all_emptied : (P : PoolName × Queue → Type 0) → ((pool : PoolName × Queue) → P pool → P (pool.0, flushed pool.1)) → (name : PoolName) (pools : Named) → All P pools → All P (changed name flushed pools)
-all_emptied P keep name pools all =
-    All-map P (emptied name) pools (All-weaker P (λ pool. P (emptied name pool)) (λ pool h. cond_both (is_same name pool.0) (pool.0, flushed pool.1) pool P (λ e. keep pool h) (λ e. h)) pools all)
+all_emptied P keep name pools all = all_named P P name flushed pools all (λ pool h. h) (λ pool same h. keep pool h)
 
 -- ---- all pools
 
@@ -57,15 +50,9 @@ pub all_without : (P : PoolName × Queue → Type 0) → ((pool : PoolName × Qu
 all_without P keep names pools all = kept_by_all (All P) (λ name pools h. all_emptied P keep name pools h) names pools all
 
 -- the names of the pools stay
-names_step : (name : PoolName) (pools : Named) → map (λ pool. pool.0) (changed name flushed pools) ≡ map (λ pool. pool.0) pools
-names_step name [] = refl
-names_step name (pool ∷ pools) =
-    let head : (emptied name pool).0 ≡ pool.0 = cond_both (is_same name pool.0) (pool.0, flushed pool.1) pool (λ (other : PoolName × Queue). other.0 ≡ pool.0) (λ e. refl) (λ e. refl) in
-    rw (head, names_step name pools) refl
-
 pub names_without : (names : List PoolName) (pools : Named) → map (λ pool. pool.0) (without_all names pools) ≡ map (λ pool. pool.0) pools
 names_without [] pools = refl
-names_without (name ∷ names) pools = names_without names (changed name flushed pools) ∙ names_step name pools
+names_without (name ∷ names) pools = names_without names (changed name flushed pools) ∙ names_kept name flushed pools
 
 -- ---- what is empty
 
@@ -91,17 +78,12 @@ abbrev IsPoolName : List ℕ → PoolName → Type 0
 IsPoolName ports (Pkt s p) = (1 ≤ p) × (p ≤ slice_index ports s)
 IsPoolName ports other = Unit {0}
 
--- what holds of each element of each list holds of each of them all
-all_flat_map : {A B : Type 0} (P : B → Type 0) (f : A → List B) (xs : List A) → All (λ x. All P (f x)) xs → All P (flat_map f xs)
-all_flat_map P f [] all = All-nil P
-all_flat_map P f (x ∷ xs) all = All-append P (f x) (flat_map f xs) (All-head (λ y. All P (f y)) x xs all) (all_flat_map P f xs (All-tail (λ y. All P (f y)) x xs all))
-
 -- the pools of packets are at ports
 ports_at : (ports : List ℕ) (s n : ℕ) → n ≤ slice_index ports s → All (IsPoolName ports) (map (Pkt s) (range_with_len 1 n))
 ports_at ports s n within = All-map (IsPoolName ports) (Pkt s) (range_with_len 1 n) (λ k d lt. let at = get_or-range_with_len 1 n k d (omega (arith, length-range_with_len 1 n)) in let long = length-range_with_len 1 n in (omega arith, omega arith))
 
 ports_named : (ports : List ℕ) → All (IsPoolName ports) (flat_map (λ switch. map (Pkt switch.0) (range_with_len 1 switch.1)) (enumerate_from 0 ports))
-ports_named ports = all_flat_map (IsPoolName ports) (λ (switch : ℕ × ℕ). map (Pkt switch.0) (range_with_len 1 switch.1)) (enumerate_from 0 ports) (λ k d lt.
+ports_named ports = all_joined (IsPoolName ports) (λ (switch : ℕ × ℕ). map (Pkt switch.0) (range_with_len 1 switch.1)) (enumerate_from 0 ports) (λ k d lt.
     let short : k < length ports = omega (arith, length-enumerate_from 0 ports) in
     let at : get_or (enumerate_from 0 ports) k d ≡ (0 + k, get_or ports k d.1) = get_or-enumerate_from 0 ports k d short in
     let same : get_or ports k d.1 ≡ slice_index ports (0 + k) = get_or_default ports k d.1 0 short ∙ ap (λ n. slice_index ports n) (sym (zero-add k)) in
@@ -115,7 +97,7 @@ names_named : (ports : List ℕ) (controllers hosts : ℕ) → All (IsPoolName p
 names_named ports controllers hosts =
     let switches = range_with_len 0 (length ports) in
     let apps : All (IsPoolName ports) (flat_map (λ c. map (App c) switches) (range_with_len 0 controllers)) =
-    all_flat_map (IsPoolName ports) (λ (c : ℕ). map (App c) switches) (range_with_len 0 controllers) (λ k d lt. others_named ports (App (get_or (range_with_len 0 controllers) k d)) switches (λ s. tt)) in
+    all_joined (IsPoolName ports) (λ (c : ℕ). map (App c) switches) (range_with_len 0 controllers) (λ k d lt. others_named ports (App (get_or (range_with_len 0 controllers) k d)) switches (λ s. tt)) in
     let ctls = map Ctl switches in
     let pkts = flat_map (λ (switch : ℕ × ℕ). map (Pkt switch.0) (range_with_len 1 switch.1)) (enumerate_from 0 ports) in
     let notes = map Note switches in
@@ -169,27 +151,9 @@ quiet_at topology controllers hosts s pools named =
 
 -- ---- what a pool is measured by
 
--- what a measure of queues gives for the pool of a name
-abbrev pub measured : (Queue → ℕ) → PoolName → Named → ℕ
-measured measure wanted pools = option_map_or measure (pool_of wanted pools) 0
-
 -- a measure that flushing does not raise is not raised
-measure_cons : (measure : Queue → ℕ) → ((queue : Queue) → measure (flushed queue) ≤ measure queue) → (wanted name : PoolName) (pool : PoolName × Queue) (pools : Named) (asked hit : Bool)
-    → is_same wanted pool.0 ≡ asked → is_same name pool.0 ≡ hit → measured measure wanted (changed name flushed pools) ≤ measured measure wanted pools
-    → measured measure wanted (changed name flushed (pool ∷ pools)) ≤ measured measure wanted (pool ∷ pools)
-measure_cons measure lower wanted name pool pools true true e f rest = rw (f, e) (lower pool.1)
-measure_cons measure lower wanted name pool pools true false e f rest = rw (f, e) (le_refl (measure pool.1))
-measure_cons measure lower wanted name pool pools false true e f rest = rw (f, e) rest
-measure_cons measure lower wanted name pool pools false false e f rest = rw (f, e) rest
-
-measure_step : (measure : Queue → ℕ) → ((queue : Queue) → measure (flushed queue) ≤ measure queue) → (wanted name : PoolName) (pools : Named)
-    → measured measure wanted (changed name flushed pools) ≤ measured measure wanted pools
-measure_step measure lower wanted name [] = le_refl 0
-measure_step measure lower wanted name (pool ∷ pools) =
-    measure_cons measure lower wanted name pool pools (is_same wanted pool.0) (is_same name pool.0) refl refl (measure_step measure lower wanted name pools)
-
 pub measure_without : (measure : Queue → ℕ) → ((queue : Queue) → measure (flushed queue) ≤ measure queue) → (wanted : PoolName) (names : List PoolName) (pools : Named)
-    → measured measure wanted (without_all names pools) ≤ measured measure wanted pools
-measure_without measure lower wanted [] pools = le_refl (measured measure wanted pools)
+    → held measure wanted (without_all names pools) ≤ held measure wanted pools
+measure_without measure lower wanted [] pools = le_refl (held measure wanted pools)
 measure_without measure lower wanted (name ∷ names) pools =
-    le_trans (measure_without measure lower wanted names (changed name flushed pools)) (measure_step measure lower wanted name pools)
+    le_trans (measure_without measure lower wanted names (changed name flushed pools)) (held_changed measure flushed wanted name pools lower)

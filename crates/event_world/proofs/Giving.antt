@@ -2,13 +2,11 @@
 use Rattle.std.proofs.Common.{◌≡◌, ◌∙◌, ℕ, ◌+◌, ◌<◌, ◌≤◌, ◌^◌, List, [], ◌∷◌, length, slice_get, slice_set, slice_index, Option, Some, None, option_map, Result, Ok, Err, ap, arith, refl, subst, sym, zero, suc}
 use Rattle.std.specs.Prelude.{IsSome, OnOk, option_and_then}
 use Rattle.std.specs.Option.{option_map_or}
-use Rattle.std.proofs.lemmas.Option.{cond_some, same_Some}
+use Rattle.std.proofs.lemmas.Option.{same_Some}
 use Rattle.controller_api.specs.Reaction.{AreValidMessages, CountsPolicies, IsValidUpItem, Reaction}
 use Rattle.controller_api.specs.declared.item.UpItem.{UpItem}
 use Rattle.controller_api.specs.declared.item.UpItem.TheVariants as heard
-use Rattle.machine_setup.specs.Setup.{IsInput}
 use Rattle.machine_setup.specs.declared.script.Input.{Input}
-use Rattle.machine_setup.specs.declared.script.Input.TheVariants.{SwitchFail}
 use Rattle.machine_setup.specs.declared.setup.Setup.{Setup}
 use Rattle.listed.specs.Lists.{changed_at}
 use Rattle.message_pools.specs.Queue.{rest_of}
@@ -21,13 +19,12 @@ use Rattle.pool_book.specs.declared.actor.Actor.TheVariants.{Controller}
 use Rattle.pool_book.specs.declared.name.PoolName.{PoolName}
 use Rattle.pool_book.specs.declared.name.PoolName.TheVariants.{Ctl, Pkt, Note, App, Admin, Recv}
 use Rattle.switch_core.specs.declared.state.State.{State}
-use Rattle.topology.specs.Status.{is_up}
 use Rattle.topology.specs.declared.network.Topology.{Topology}
 use Rattle.topology.specs.declared.status.Status.{Status}
 use Rattle.event_world.specs.Answers.{IsInputEvent}
 use Rattle.event_world.specs.Events.{input_count, number_of, pool_name}
 use Rattle.event_world.specs.Fits.{Fits, IsItemOf, IsShared}
-use Rattle.event_world.specs.Inputs.{effect, fails}
+use Rattle.event_world.specs.Inputs.{effect}
 use Rattle.event_world.specs.Mail.{Mail, Shared, mail_down}
 use Rattle.event_world.specs.Room.{CanNumber}
 use Rattle.event_world.specs.World.{IsEnabled, Situation, acted, at_controller, by_controller, counted_world, delivered, first_item, happened, heard_by, news_at, received_by, taken, with_item, with_line}
@@ -37,6 +34,7 @@ use Rattle.event_world.specs.declared.event.Event.TheVariants as event
 use Rattle.event_world.proofs.Delivered.{can_number}
 use Rattle.event_world.proofs.Fitting.{fits_by_controller, fits_by_host}
 use Rattle.event_world.proofs.InputsFit.{effect_few}
+use Rattle.event_world.proofs.Lists.{some_is}
 use Rattle.event_world.proofs.Sent.{length_down}
 use Rattle.event_world.proofs.Within.{IsNameIn, item_kind, name_in_range}
 
@@ -44,8 +42,6 @@ use Rattle.event_world.proofs.Within.{IsNameIn, item_kind, name_in_range}
 pub on_ok : {T E P Q : Type 0} (r : Result T E) → OnOk r P → (P → Q) → OnOk r Q
 on_ok (Ok x) p follows = follows p
 on_ok (Err e) p follows = tt
-
--- ---- pools
 
 -- ---- what a controller hears
 
@@ -74,11 +70,6 @@ hears_first topology controllers c number (Admin d) (item.Policy deny) shared ow
 hears_first topology controllers c number (App d s) _ shared own kind within first = absurd kind
 hears_first topology controllers c number (Admin d) _ shared own kind within first = absurd kind
 hears_first topology controllers c number _ it shared own kind within first = absurd cc
-
--- an option that is something
-some_is : {A : Type 0} (o : Option A) → IsSome o → (a : A) × (o ≡ Some a)
-some_is None some = absurd cc
-some_is (Some a) some = (a, refl)
 
 -- a controller hears the first item of a pool of its own
 pub hears : (topology : Topology) (controllers c : ℕ) (name : PoolName) (shared : Shared) → IsShared topology controllers shared → taker name ≡ Controller c → IsSome (first_item name shared) → Hears controllers c name shared
@@ -220,11 +211,6 @@ module _ {C : Type 0} where
 
 -- ---- inputs
 
--- a switch that fails is there
-pub failed_there : (topology : Topology) (controllers : ℕ) (status : Status) (input : Input) (s : ℕ) → IsInput topology controllers input → fails status input ≡ Some s → s < length topology.ports
-failed_there topology controllers status (SwitchFail t) s named e = subst (λ (n : ℕ). n < length topology.ports) (cond_some (is_up status.switch_up t) t s e).1 named
-failed_there topology controllers status _ s named e = absurd cc
-
 -- what stands where a world was read stands there in the world
 pub number_within : {A : Type 0} (xs : List A) (n most : ℕ) → n < most → length xs ≡ most → n < length xs
 number_within xs n most within same = omega arith
@@ -244,6 +230,10 @@ pub host_there : (topology : Topology) (controllers h : ℕ) (shared : Shared) �
 host_there topology controllers h shared fits some =
     let head = some_is (first_item (Recv h) shared) some in
     number_within shared.received h (length topology.hosts) (name_in_range topology controllers (Recv h) head.0.0 head.0.1 shared fits head.1) fits.received
+
+-- and its count is not full
+pub host_counts : (topology : Topology) (controllers h : ℕ) (shared : Shared) → IsShared topology controllers shared → shared.events < 2 ^ 31 → IsSome (first_item (Recv h) shared) → slice_index shared.received h + 1 < 2 ^ 64
+host_counts topology controllers h shared fits events some = let few = fits.counts h 0 (host_there topology controllers h shared fits some) in omega arith
 
 -- one more where a number stood is a change there
 one_more : (xs : List ℕ) (n : ℕ) → n < length xs → slice_set xs n (slice_index xs n + 1) ≡ changed_at n (λ count. count + 1) xs

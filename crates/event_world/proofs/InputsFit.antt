@@ -1,13 +1,12 @@
 -- An input keeps a world one of its setup, and brings few items.
-use Rattle.std.proofs.Common.{◌≡◌, ℕ, ◌+◌, ◌^◌, ◌<◌, ◌≤◌, ◌&&◌, ◌⊎◌, List, [], ◌∷◌, length, map, filter, filter_map, slice_get, slice_set, slice_index, sum, All, Option, Some, None, Bool, true, false, not, is_none, option_and_then, if◌then◌else◌, inl, inr, refl, sym, ap, ◌∙◌, subst, arith, zero, suc}
-use Rattle.std.specs.List.{cons_option, enumerate_from, list_any}
+use Rattle.std.proofs.Common.{◌≡◌, ℕ, ◌+◌, ◌^◌, ◌<◌, ◌≤◌, ◌&&◌, ◌⊎◌, List, [], ◌∷◌, length, map, filter, slice_get, slice_set, slice_index, sum, All, Option, Some, None, Bool, true, false, not, is_none, option_and_then, if◌then◌else◌, inl, inr, refl, sym, ap, ◌∙◌, subst, arith}
+use Rattle.std.specs.List.{enumerate_from, list_any}
 use Rattle.std.specs.Option.{option_map_or}
 use Rattle.std.proofs.lemmas.Bool.{cases_lt, cond_both}
 use Rattle.std.proofs.lemmas.List.{get_or_past, length-append, length-map, length-set}
 use Rattle.std.proofs.lemmas.List.Elements.{All-nil}
 use Rattle.std.proofs.lemmas.List.FromFn.{length-enumerate_from, length-range_with_len}
 use Rattle.std.proofs.lemmas.List.Sums.{count_by-le-length, length-filter}
-use Rattle.std.proofs.lemmas.Option.{same_Some}
 use Rattle.controller_api.specs.Reaction.{Reaction}
 use Rattle.controller_api.specs.declared.item.UpItem.{UpItem}
 use Rattle.message_pools.specs.Queue.{Queue, flushed}
@@ -30,6 +29,7 @@ use Rattle.topology.specs.declared.status.Status.{Status}
 use Rattle.event_world.proofs.Delivered.{policies_delivered, seconds_delivered, shared_delivered}
 use Rattle.event_world.proofs.EffectFits.{effect_fits}
 use Rattle.event_world.proofs.Flushed.{all_without, measure_without, names_without, quiet_at}
+use Rattle.event_world.proofs.Lists.{get_set, length_given}
 use Rattle.event_world.specs.Fits.{Fits, IsItemOf, IsPool, IsShared, IsSwitchOf, seconds_of, switch_of, waiting_policies, waiting_seconds}
 use Rattle.event_world.specs.Inputs.{channel_down, channel_up, down_mask, effect, ends_at, fails, has_owner, host_moves, injected, is_open, joins, link_down, link_up, no_effect, pools_of, ports_of, seconds_pass, sends_only, switch_comes, switch_fails, tells, tells_gone, tells_neighbours}
 use Rattle.event_world.specs.Mail.{Mail, Shared, owner_of}
@@ -55,6 +55,7 @@ shared_cleared topology controllers status names shared fits is downs =
     let old : All (IsPool topology.ports shared.status shared.events) after = all_without (IsPool topology.ports shared.status shared.events) (pool_flushed topology.ports shared.status shared.events) names shared.pools fits.pools in record {
       status = is;
       received = fits.received;
+      counts = fits.counts;
       names = names_without names shared.pools ∙ fits.names;
       pools = λ k d lt. let pool = old k d lt in record {
         items = pool.items;
@@ -80,15 +81,6 @@ policies_cleared c names pools = measure_without (λ queue. length queue.items) 
 abbrev IsFew : Effect → Type 0
 IsFew change = length change.mail < 2 ^ 32
 
--- what is kept of a list is no longer
-length_kept_cons : {B : Type 0} (o : Option B) (ys : List B) → length (cons_option o ys) ≤ 1 + length ys
-length_kept_cons None ys = omega arith
-length_kept_cons (Some y) ys = omega arith
-
-length_kept : {A B : Type 0} (f : A → Option B) (xs : List A) → length (filter_map f xs) ≤ length xs
-length_kept f [] = omega arith
-length_kept f (x ∷ xs) = let rest = length_kept f xs in let cons = length_kept_cons (f x) (filter_map f xs) in omega arith
-
 -- one thing for an option is at most one
 length_option : {A B : Type 0} (f : A → B) (o : Option A) → length (option_map_or (λ x. f x ∷ []) o []) ≤ 1
 length_option f None = omega arith
@@ -96,7 +88,7 @@ length_option f (Some x) = omega arith
 
 few_neighbours : (topology : Topology) (status : Status) (s : ℕ) (down : Bool) → slice_index topology.ports s ≤ 48 → length (tells_neighbours topology status s down) ≤ 48
 few_neighbours topology status s down few =
-    let kept = length_kept (λ (port : ℕ). option_and_then (λ far. if is_open status far then Some (tells far.1 (Port far.2 down)) else None) (far_end topology s port)) (ports_of topology s) in
+    let kept = length_given (λ (port : ℕ). option_and_then (λ far. if is_open status far then Some (tells far.1 (Port far.2 down)) else None) (far_end topology s port)) (ports_of topology s) in
     let all = length-range_with_len 1 (slice_index topology.ports s) in
     omega arith
 
@@ -194,14 +186,6 @@ effect_few topology status (Policy c deny) is few = omega arith
 effect_few topology status (Seconds n) is few = few_seconds topology status n is
 
 -- ---- states
-
--- what stands in a list after one element was replaced stood there before, or is the new one
-get_set : {A : Type 0} (xs : List A) (n : ℕ) (new : A) (k : ℕ) (x : A) → slice_get (slice_set xs n new) k ≡ Some x → (slice_get xs k ≡ Some x) ⊎ ((k ≡ n) × (x ≡ new) × ((old : A) × (slice_get xs k ≡ Some old)))
-get_set [] n new k x e = inl e
-get_set (y ∷ ys) zero new zero x e = inr (refl, sym (same_Some new x e), (y, refl))
-get_set (y ∷ ys) zero new (suc k) x e = inl e
-get_set (y ∷ ys) (suc n) new zero x e = inl e
-get_set (y ∷ ys) (suc n) new (suc k) x e = elim (get_set ys n new k x e) [ inl h ↦ inl h | inr h ↦ inr (ap suc h.0, h.1, h.2) ]
 
 -- the states after an input: a switch that fails starts anew
 abbrev renewed : Topology → Option ℕ → List State → List State

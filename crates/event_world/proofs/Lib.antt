@@ -5,6 +5,7 @@ pub mod Fitting
 pub mod Flushed
 pub mod Giving
 pub mod InputsFit
+pub mod Lists
 pub mod Named
 pub mod Reading
 pub mod Rooms

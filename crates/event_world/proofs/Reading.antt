@@ -2,7 +2,7 @@
 use Rattle.std.proofs.Common.{◌≡◌, ◌∙◌, ◌↔◌, ℕ, ◌+◌, ◌<◌, ◌≤◌, ◌^◌, Bool, true, false, List, [], ◌∷◌, ◌++◌, length, map, take, slice_get, zero, suc, Option, Some, None, option_map, All, ap, ap₂, arith, inl, inr, refl, subst, sym}
 use Rattle.std.specs.Prelude.{IsTrue, get_or, nat_le, slice_index, zip}
 use Rattle.std.specs.List.{enumerate_from}
-use Rattle.std.proofs.lemmas.Bool.{and_parts, cases_Bool, leb-true}
+use Rattle.std.proofs.lemmas.Bool.{and_parts, leb-true}
 use Rattle.std.proofs.lemmas.List.{length-map, take_more}
 use Rattle.std.proofs.lemmas.List.Elements.{All-cons, All-head, All-map, All-nil, All-tail, All-weaker}
 use Rattle.std.proofs.lemmas.List.Sums.{sum_by-le}
@@ -21,13 +21,14 @@ use Rattle.message_pools.specs.declared.item.Item.{Item}
 use Rattle.of10_messages.specs.Valid.{IsValidAction}
 use Rattle.of10_messages.specs.declared.action.Action.{Action}
 use Rattle.of10_messages.specs.declared.action.Action.TheVariants as action
-use Rattle.pool_book.specs.Names.{is_same, names}
+use Rattle.pool_book.specs.Names.{names}
 use Rattle.pool_book.specs.Order.{length_names}
 use Rattle.pool_book.specs.Pools.{IsQuiet, Named, first_waiting, pool_of, queues}
 use Rattle.pool_book.specs.declared.name.PoolName.{PoolName}
 use Rattle.switch_core.specs.declared.state.State.{State}
 use Rattle.topology.specs.declared.network.Topology.{Topology}
 use Rattle.event_world.proofs.Fitting.{fits_start}
+use Rattle.event_world.proofs.Named.{pool_of_queues}
 use Rattle.event_world.proofs.Starting.{length_switches}
 use Rattle.event_world.specs.Answers.{is_quiet, next_line}
 use Rattle.event_world.specs.Events.{pool_name}
@@ -95,14 +96,6 @@ pub line_unmarked : (script : List Line) (shared : Shared) (line : Line) → sli
 line_unmarked script shared line at marked = rw (at, marked) refl
 
 -- ---- the first item of an event's pool
-
--- the pool of a name, without its room
-pool_of_queues : (name : PoolName) (pools : List (PoolName × Reserved)) → pool_of name (queues pools) ≡ option_map (λ pool. pool.queue) (pool_of name pools)
-pool_of_queues name [] = refl
-pool_of_queues name (pool ∷ pools) = elim (cases_Bool (is_same name pool.0)) [
-  | inl holds ↦ rw holds refl
-  | inr fails ↦ rw fails (pool_of_queues name pools)
-]
 
 pub head_missing : (shared : Shared) (pools : List (PoolName × Reserved)) (event : Event) (name : PoolName) → queues pools ≡ shared.pools → pool_name event ≡ Some name → pool_of name pools ≡ None → head_for shared event ≡ None
 head_missing shared pools event name same is none =

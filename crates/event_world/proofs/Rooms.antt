@@ -1,10 +1,11 @@
 -- Room in the pools for mail, item by item, and what a put and a flush leave of it.
-use Rattle.std.proofs.Common.{◌≡◌, ◌∙◌, ℕ, ◌+◌, ◌^◌, ◌<◌, ◌≤◌, Bool, true, false, cond, List, [], ◌∷◌, filter_map, length, take, get_or, Option, Some, None, option_map, All, ap, arith, inl, inr, refl, subst, sym}
+use Rattle.std.proofs.Common.{◌≡◌, ◌∙◌, ℕ, ◌+◌, ◌^◌, ◌<◌, ◌≤◌, Bool, true, false, cond, List, [], ◌∷◌, filter_map, length, take, get_or, Option, None, option_map, All, ap, arith, inl, inr, refl, subst, sym}
 use Rattle.std.specs.List.{enumerate_from}
 use Rattle.std.specs.Prelude.{IfSome, IsSome}
-use Rattle.std.proofs.lemmas.Bool.{both_ways, cases_Bool}
-use Rattle.std.proofs.lemmas.List.{length-append}
+use Rattle.std.proofs.lemmas.Bool.{cases_Bool}
+use Rattle.std.proofs.lemmas.List.{length_push}
 use Rattle.std.proofs.lemmas.List.Elements.{All-head, All-map, All-tail, All-weaker}
+use Rattle.std.proofs.lemmas.List.FromFn.{length-enumerate_from}
 use Rattle.std.proofs.lemmas.List.Sums.{sum_by-cons, sum_by_more}
 use Rattle.message_pools.specs.Queue.{Queue, Reserved, empty_queue, flushed, next_number, rest_of, with_last}
 use Rattle.message_pools.specs.declared.item.Item.{Item}
@@ -19,38 +20,10 @@ use Rattle.event_world.specs.Inputs.{tells}
 use Rattle.event_world.specs.Mail.{Mail, addressed, with_mail}
 use Rattle.event_world.specs.Room.{CanNumber, HasRoomForMail, KeepsRoom, count_for}
 use Rattle.event_world.specs.World.{first_joins, without_all}
+use Rattle.event_world.proofs.Lists.{length_given}
+use Rattle.event_world.proofs.Named.{all_named, queue_there, same_back, there_by_queues}
 
--- ---- names
-
--- whether names are the same doesn't depend on their order
-same_back : (a b : PoolName) → is_same a b ≡ is_same b a
-same_back a b = elim (cases_Bool (is_same a b)) [
-  | inl holds ↦
-      let same : a ≡ b = same_name a b holds in
-      let back : is_same b a ≡ true = subst (λ o. is_same b o ≡ true) (sym same) (is_itself b) in
-      holds ∙ sym back
-  | inr fails ↦ elim (cases_Bool (is_same b a)) [
-    | inl back ↦
-        let same : b ≡ a = same_name b a back in
-        absurd (both_ways (is_same a b) fails (subst (λ o. is_same a o ≡ true) (sym same) (is_itself a)))
-    | inr not ↦ fails ∙ sym not
-  ]
-]
-
--- a name has a pool where it has a queue
-pub there_by_queues : (name : PoolName) (pools : List (PoolName × Reserved)) → IsSome (pool_of name (queues pools)) → IsSome (pool_of name pools)
-there_by_queues name [] there = there
-there_by_queues name (pool ∷ pools) there = elim (cases_Bool (is_same name pool.0)) [
-  | inl holds ↦ rw holds refl
-  | inr fails ↦ let rest : IsSome (pool_of name (queues pools)) = rw fails at there in rw fails (there_by_queues name pools rest)
-]
-
-pub queue_there : (name : PoolName) (pools : List (PoolName × Reserved)) → IsSome (pool_of name pools) → IsSome (pool_of name (queues pools))
-queue_there name [] there = there
-queue_there name (pool ∷ pools) there = elim (cases_Bool (is_same name pool.0)) [
-  | inl holds ↦ rw holds refl
-  | inr fails ↦ let rest : IsSome (pool_of name pools) = rw fails at there in rw fails (queue_there name pools rest)
-]
+-- ---- pools that are there
 
 -- a change to a pool makes none
 pub there_before : {A : Type 0} (name other : PoolName) (change : A → A) (pools : List (PoolName × A)) → IsSome (pool_of other (changed name change pools)) → IsSome (pool_of other pools)
@@ -144,19 +117,10 @@ number_first name more pools all =
     at_pool (λ queue. next_number queue < 2 ^ 63) name pools (All-weaker (λ (pool : PoolName × Queue). next_number pool.1 + (more + 1) ≤ 2 ^ 63) (λ pool. next_number pool.1 < 2 ^ 63) (λ pool can. omega arith) pools all)
 
 -- once an item is put, each pool can number one less
-number_put : (name : PoolName) (item : Item) (more : ℕ) (pool : PoolName × Queue) → next_number pool.1 + (more + 1) ≤ 2 ^ 63 → next_number (cond (is_same name pool.0) (pool.0, with_last pool.1 item) pool).1 + more ≤ 2 ^ 63
-number_put name item more pool can =
-    let long : length (with_last pool.1 item).items ≡ length pool.1.items + 1 = length-append pool.1.items (item ∷ []) in
-    elim (cases_Bool (is_same name pool.0)) [
-      | inl holds ↦ rw holds (omega arith)
-      | inr fails ↦ rw fails (omega arith)
-    ]
-
 pub number_rest : (name : PoolName) (item : Item) (more : ℕ) (pools : Named) → CanNumber (more + 1) pools → CanNumber more (changed name (λ queue. with_last queue item) pools)
 number_rest name item more pools all =
-    All-map (λ (pool : PoolName × Queue). next_number pool.1 + more ≤ 2 ^ 63) (λ (pool : PoolName × Queue). cond (is_same name pool.0) (pool.0, with_last pool.1 item) pool) pools
-    (All-weaker (λ (pool : PoolName × Queue). next_number pool.1 + (more + 1) ≤ 2 ^ 63) (λ (pool : PoolName × Queue). next_number (cond (is_same name pool.0) (pool.0, with_last pool.1 item) pool).1 + more ≤ 2 ^ 63)
-    (λ pool can. number_put name item more pool can) pools all)
+    all_named (λ (pool : PoolName × Queue). next_number pool.1 + (more + 1) ≤ 2 ^ 63) (λ pool. next_number pool.1 + more ≤ 2 ^ 63) name (λ queue. with_last queue item) pools all
+    (λ pool can. omega arith) (λ pool same can. let long = length_push pool.1.items item in omega arith)
 
 -- ---- room that is kept
 
@@ -193,12 +157,8 @@ room_changed name mail change before after room put kept other there =
 -- and each pool can number as many items as before, where the change gives the next item no greater number
 pub number_changed : (name : PoolName) (more : ℕ) (change : Queue → Queue) (pools : Named) → ((queue : Queue) → next_number (change queue) ≤ next_number queue) → CanNumber more pools → CanNumber more (changed name change pools)
 number_changed name more change pools lower all =
-    All-map (λ (pool : PoolName × Queue). next_number pool.1 + more ≤ 2 ^ 63) (λ (pool : PoolName × Queue). cond (is_same name pool.0) (pool.0, change pool.1) pool) pools
-    (All-weaker (λ (pool : PoolName × Queue). next_number pool.1 + more ≤ 2 ^ 63) (λ (pool : PoolName × Queue). next_number (cond (is_same name pool.0) (pool.0, change pool.1) pool).1 + more ≤ 2 ^ 63)
-    (λ pool can. elim (cases_Bool (is_same name pool.0)) [
-      | inl holds ↦ let low = lower pool.1 in rw holds (omega arith)
-      | inr fails ↦ rw fails can
-    ]) pools all)
+    let P : PoolName × Queue → Type 0 = λ pool. next_number pool.1 + more ≤ 2 ^ 63 in
+    all_named P P name change pools all (λ pool can. can) (λ pool same can. let low = lower pool.1 in omega arith)
 
 next_from : (first : ℕ) (items : List Item) → next_number (rest_of (record { first = first; items = items })) ≤ first + length items
 next_from first [] = omega arith
@@ -227,13 +187,14 @@ room_flushed names mail before after room put kept other there =
 
 -- ---- the start
 
-few_join : (first : ℕ) (owners : List (Option ℕ)) → length (filter_map (λ (owner : ℕ × Option ℕ). option_map (λ (c : ℕ). tells owner.0 (Join 0)) owner.1) (enumerate_from first owners)) ≤ length owners
-few_join first [] = omega arith
-few_join first (None ∷ owners) = let rest = few_join (first + 1) owners in omega arith
-few_join first (Some c ∷ owners) = let rest = few_join (first + 1) owners in omega arith
+few_join : (owners : List (Option ℕ)) → length (first_joins owners) ≤ length owners
+few_join owners =
+    let given = length_given (λ (owner : ℕ × Option ℕ). option_map (λ (c : ℕ). tells owner.0 (Join 0)) owner.1) (enumerate_from 0 owners) in
+    let all = length-enumerate_from 0 owners in
+    omega arith
 
 -- pools in which nothing waits can number a join of each switch
 pub number_joins : (ports : List ℕ) (controllers hosts : ℕ) (owners : List (Option ℕ)) → length owners < 2 ^ 16 → CanNumber (length (first_joins owners)) (empty_pools ports controllers hosts)
 number_joins ports controllers hosts owners few =
-    let joins = few_join 0 owners in
+    let joins = few_join owners in
     All-map (λ (pool : PoolName × Queue). next_number pool.1 + length (first_joins owners) ≤ 2 ^ 63) (λ (name : PoolName). (name, empty_queue)) (names ports controllers hosts) (λ k d within. omega arith)

@@ -1,8 +1,7 @@
 -- The mail that actors send may be delivered; it tells no switch of seconds, and no controller of a policy.
-use Rattle.std.proofs.Common.{◌≡◌, ℕ, ◌+◌, ◌*◌, ◌≤◌, ◌&&◌, Bool, true, false, cond, List, [], ◌∷◌, length, filter_map, All, Option, Some, None, option_map, arith, inl, inr, refl, subst}
-use Rattle.std.specs.List.{cons_option}
+use Rattle.std.proofs.Common.{◌≡◌, ℕ, ◌*◌, ◌≤◌, ◌&&◌, Bool, true, false, cond, List, length, All, Option, Some, None, option_map, arith, inl, inr, refl, subst}
 use Rattle.std.proofs.lemmas.Bool.{and_parts, cases_Bool, cond_both}
-use Rattle.std.proofs.lemmas.List.Elements.{All-cons, All-head, All-nil, All-tail, All-weaker}
+use Rattle.std.proofs.lemmas.List.Elements.{All-weaker}
 use Rattle.std.proofs.lemmas.List.Sums.{sum_by-le}
 use Rattle.std.proofs.lemmas.Option.{cond_some, same_Some}
 use Rattle.of10_match.specs.Packet.{IsValidPacket}
@@ -22,29 +21,11 @@ use Rattle.topology.specs.declared.status.Status.{Status}
 use Rattle.event_world.specs.Fits.{IsDeliverable, seconds_of, seconds_to}
 use Rattle.event_world.specs.Mail.{Mail, addressed, down_to, is_under, mail_down, mail_out, mail_up, out_of, owner_of, pool_at, up_from}
 use Rattle.event_world.specs.Room.{count_for}
-
--- ---- what a filter gives
-
-all_more : {Y : Type 0} (Q : Y → Type 0) (o : Option Y) (ys : List Y) → ((y : Y) → o ≡ Some y → Q y) → All Q ys → All Q (cons_option o ys)
-all_more Q None ys first rest = rest
-all_more Q (Some y) ys first rest = All-cons Q y ys (first y refl) rest
-
--- what follows of all that a function gives holds of each thing that it gave
-pub all_given : {X Y : Type 0} (P : X → Type 0) (Q : Y → Type 0) (h : X → Option Y) (xs : List X) → All P xs → ((x : X) (y : Y) → P x → h x ≡ Some y → Q y) → All Q (filter_map h xs)
-all_given P Q h [] all gives = All-nil Q
-all_given P Q h (x ∷ xs) all gives = all_more Q (h x) (filter_map h xs) (λ y e. gives x y (All-head P x xs all) e) (all_given P Q h xs (All-tail P x xs all) gives)
-
-length_more : {Y : Type 0} (o : Option Y) (ys : List Y) → length (cons_option o ys) ≤ 1 + length ys
-length_more None ys = omega arith
-length_more (Some y) ys = omega arith
-
--- a function gives at most one thing for each
-pub length_given : {X Y : Type 0} (h : X → Option Y) (xs : List X) → length (filter_map h xs) ≤ length xs
-length_given h [] = omega arith
-length_given h (x ∷ xs) = let rest = length_given h xs in let more = length_more (h x) (filter_map h xs) in omega arith
+use Rattle.event_world.proofs.Lists.{all_given, length_given}
 
 -- ---- mail that tells of no seconds and no policy
 
+-- an item that is neither a number of seconds nor a policy
 pub record IsSilent (one : PoolName × Item) : Type 0 where
   pub seconds : seconds_of one.1 ≡ 0
   pub policy : (c : ℕ) → is_same (Admin c) one.0 ≡ false
@@ -57,16 +38,20 @@ no_seconds s mail silent =
     (λ one h. cond_both (is_same (Note s) one.0) (seconds_of one.1) 0 (λ (n : ℕ). n ≤ 0) (λ holds. let none = h.seconds in omega arith) (λ fails. omega arith)) mail silent) in
     omega arith
 
--- and no controller of a policy
-pub no_policies : (c : ℕ) (mail : Mail) → All IsSilent mail → count_for (Admin c) mail ≡ 0
-no_policies c mail silent =
+-- mail to no pool of a controller's policies tells it of none
+pub no_policy_to : (c : ℕ) (mail : Mail) → All (λ one. is_same (Admin c) one.0 ≡ false) mail → count_for (Admin c) mail ≡ 0
+no_policy_to c mail other =
     let none : count_for (Admin c) mail ≤ length mail * 0 = sum_by-le (λ (one : PoolName × Item). cond (is_same (Admin c) one.0) 1 0) 0 mail
-    (All-weaker IsSilent (λ (one : PoolName × Item). cond (is_same (Admin c) one.0) 1 0 ≤ 0) (λ one h. let other = h.policy c in rw other (omega arith)) mail silent) in
+    (All-weaker (λ (one : PoolName × Item). is_same (Admin c) one.0 ≡ false) (λ one. cond (is_same (Admin c) one.0) 1 0 ≤ 0) (λ one no. rw no (omega arith)) mail other) in
     omega arith
+
+-- and so it tells no controller of a policy
+pub no_policies : (c : ℕ) (mail : Mail) → All IsSilent mail → count_for (Admin c) mail ≡ 0
+no_policies c mail silent = no_policy_to c mail (All-weaker IsSilent (λ (one : PoolName × Item). is_same (Admin c) one.0 ≡ false) (λ one h. h.policy c) mail silent)
 
 -- ---- what actors send
 
--- what an actor sends may be put into its pool
+-- what an actor sends may be put into its pool, and is silent
 pub record IsSent (ports : List ℕ) (status : Status) (one : PoolName × Item) : Type 0 where
   pub deliverable : IsDeliverable ports status one
   pub silent : IsSilent one

@@ -3,7 +3,7 @@ use Rattle.std.proofs.Common.{◌≡◌, ◌∙◌, ℕ, ◌+◌, ◌<◌, ◌�
 use Rattle.std.specs.List.{enumerate_from}
 use Rattle.std.specs.Option.{option_map_or}
 use Rattle.std.proofs.lemmas.List.{get_or-replicate, length-map, length-replicate}
-use Rattle.std.proofs.lemmas.List.Elements.{All-map, All-nil, All-weaker}
+use Rattle.std.proofs.lemmas.List.Elements.{All-map, All-nil, All-replicate, All-weaker}
 use Rattle.std.proofs.lemmas.List.FromFn.{length-enumerate_from}
 use Rattle.std.proofs.lemmas.Option.{same_Some, unwrap_or-slice_get}
 use Rattle.std.proofs.lemmas.Slice.Zip.{length-zip}
@@ -28,7 +28,8 @@ use Rattle.event_world.specs.World.{first_joins, start_shared, switch_at_start, 
 use Rattle.event_world.proofs.Delivered.{IsHeld, held, held_put, names_with_mail, pool_held}
 use Rattle.pool_book.specs.Change.{same_name}
 use Rattle.event_world.proofs.Named.{all_named, all_pool_of}
-use Rattle.event_world.proofs.Sent.{IsSilent, all_given}
+use Rattle.event_world.proofs.Lists.{all_given}
+use Rattle.event_world.proofs.Sent.{IsSilent}
 
 -- ---- the status
 
@@ -116,6 +117,7 @@ shared_start topology controllers network =
     record {
       status = status_start topology controllers network;
       received = length-replicate (length topology.hosts) 0;
+      counts = All-replicate (λ (count : ℕ). count ≤ 0) (length topology.hosts) 0 (omega arith);
       names = names_with_mail (first_joins topology.owner) (empty_pools topology.ports controllers (length topology.hosts)) ∙ names_empty all;
       pools = All-weaker (IsFresh topology.ports status (0 + length topology.owner)) (IsPool topology.ports status 0) (λ pool h. pool_held topology.ports status 1 0 pool (omega arith) h.held) (start_shared topology controllers).pools fresh;
     }

@@ -72,11 +72,13 @@ apart_set xs n new apart free i j d before within same =
 
 -- ---- a status with something changed
 
-pub link_set : (topology : Topology) (status : Status) (link : ℕ) (up : Bool) → IsStatus topology status → IsStatus topology (record status { link_up = slice_set status.link_up link up })
-link_set topology status link up is = record {
-  links = length-set status.link_up link up ∙ is.links;
-  switches = is.switches;
-  controls = is.controls;
+-- flags may be other ones, as many as there were
+flags_set : (topology : Topology) (status : Status) (links switches controls : List Bool) → IsStatus topology status → length links ≡ length status.link_up → length switches ≡ length status.switch_up → length controls ≡ length status.control_up
+    → IsStatus topology (record status { link_up = links; switch_up = switches; control_up = controls })
+flags_set topology status links switches controls is same_links same_switches same_controls = record {
+  links = same_links ∙ is.links;
+  switches = same_switches ∙ is.switches;
+  controls = same_controls ∙ is.controls;
   hosts = is.hosts;
   ends = is.ends;
   places = is.places;
@@ -85,34 +87,15 @@ link_set topology status link up is = record {
   few_links = is.few_links;
   few_hosts = is.few_hosts;
 }
+
+pub link_set : (topology : Topology) (status : Status) (link : ℕ) (up : Bool) → IsStatus topology status → IsStatus topology (record status { link_up = slice_set status.link_up link up })
+link_set topology status link up is = flags_set topology status (slice_set status.link_up link up) status.switch_up status.control_up is (length-set status.link_up link up) refl refl
 
 pub switch_set : (topology : Topology) (status : Status) (s : ℕ) (up : Bool) → IsStatus topology status → IsStatus topology (record status { switch_up = slice_set status.switch_up s up })
-switch_set topology status s up is = record {
-  links = is.links;
-  switches = length-set status.switch_up s up ∙ is.switches;
-  controls = is.controls;
-  hosts = is.hosts;
-  ends = is.ends;
-  places = is.places;
-  apart = is.apart;
-  few_switches = is.few_switches;
-  few_links = is.few_links;
-  few_hosts = is.few_hosts;
-}
+switch_set topology status s up is = flags_set topology status status.link_up (slice_set status.switch_up s up) status.control_up is refl (length-set status.switch_up s up) refl
 
 pub control_set : (topology : Topology) (status : Status) (s : ℕ) (up : Bool) → IsStatus topology status → IsStatus topology (record status { control_up = slice_set status.control_up s up })
-control_set topology status s up is = record {
-  links = is.links;
-  switches = is.switches;
-  controls = length-set status.control_up s up ∙ is.controls;
-  hosts = is.hosts;
-  ends = is.ends;
-  places = is.places;
-  apart = is.apart;
-  few_switches = is.few_switches;
-  few_links = is.few_links;
-  few_hosts = is.few_hosts;
-}
+control_set topology status s up is = flags_set topology status status.link_up status.switch_up (slice_set status.control_up s up) is refl refl (length-set status.control_up s up)
 
 back : (m n : ℕ) → m + n - m ≡ n
 back m n = omega arith

@@ -1,8 +1,7 @@
 -- How a switch takes the first item of a pool: what it can be, what the world becomes, and that the world still fits.
-use Rattle.std.proofs.Common.{◌≡◌, ◌∙◌, ℕ, ◌+◌, ◌<◌, ◌≤◌, ◌^◌, max, false, List, [], ◌∷◌, ◌++◌, length, get_or, slice_get, slice_set, Option, Some, None, option_map, All, ap, arith, inl, inr, refl, subst, sym}
-use Rattle.std.specs.Prelude.{IfSome, IsSome, OnErr, Result, Ok, Err, filter_map, is_some, option_and_then}
+use Rattle.std.proofs.Common.{◌≡◌, ◌∙◌, ℕ, ◌+◌, ◌<◌, ◌≤◌, ◌^◌, max, false, List, [], ◌++◌, length, get_or, slice_get, slice_set, Option, Some, None, option_map, All, ap, arith, refl, subst, sym}
+use Rattle.std.specs.Prelude.{IsSome, OnErr, Result, Ok, Err, filter_map, option_and_then}
 use Rattle.std.specs.Option.{option_map_or}
-use Rattle.std.proofs.lemmas.Bool.{cases_Bool}
 use Rattle.std.proofs.lemmas.List.{append-nil, length-append}
 use Rattle.std.proofs.lemmas.Option.{get_or_from_slice_get, same_Some, slice_get_read, some_pair_parts}
 use Rattle.of10_match.specs.Packet.{IsValidPacket}
@@ -18,7 +17,6 @@ use Rattle.listed.specs.Lists.{set_same}
 use Rattle.message_pools.specs.Queue.{Reserved, head_of, rest_of}
 use Rattle.message_pools.specs.declared.item.Item.{Item}
 use Rattle.message_pools.specs.declared.item.Item.TheVariants as item
-use Rattle.pool_book.specs.Names.{is_same}
 use Rattle.pool_book.specs.Pools.{HasRoomFor as HasMoreRoom, Named, changed, pool_of, queues, room_of}
 use Rattle.pool_book.specs.declared.name.PoolName.{PoolName}
 use Rattle.pool_book.specs.declared.name.PoolName.TheVariants.{Ctl, Pkt, Note}
@@ -32,36 +30,28 @@ use Rattle.topology.specs.declared.network.Topology.{Topology}
 use Rattle.event_world.specs.Fits.{Fits, IsItemOf, IsShared, IsSwitchOf, seconds_of, switch_of}
 use Rattle.topology.specs.declared.status.Status.{Status}
 use Rattle.event_world.specs.Mail.{Mail, Shared, addressed, mail_out, mail_up, up_from, with_mail}
-use Rattle.event_world.specs.Plans.{CanTake, IsCommand, IsPlanFor, IsPlanned, commanded}
+use Rattle.event_world.specs.Plans.{CanTake, IsCommand, IsPlanFor, commanded}
 use Rattle.event_world.specs.Room.{CanNumber, HasRoomUp}
 use Rattle.event_world.specs.World.{IsFirst, Situation, acted, at_switch, by_switch, counted_world, first_item, sent_by, switch_step, taken, with_item}
 use Rattle.event_world.proofs.Delivered.{can_number, seconds_taken, shared_taken}
 use Rattle.event_world.proofs.Fitting.{fits_by_switch}
 use Rattle.pool_book.specs.Change.{is_itself}
-use Rattle.event_world.proofs.Rooms.{queue_there, there_before, there_by_queues}
+use Rattle.event_world.proofs.Lists.{some_is}
+use Rattle.event_world.proofs.Named.{pool_of_queues, queue_there, there_by_queues}
+use Rattle.event_world.proofs.Rooms.{there_before}
 use Rattle.event_world.proofs.Sent.{length_out, length_up}
 use Rattle.event_world.proofs.Within.{item_kind, name_in_range}
 
 -- ---- pools and their room
 
--- what waits in a pool is its queue
-pool_queue : (name : PoolName) (pools : List (PoolName × Reserved)) → pool_of name (queues pools) ≡ option_map (λ (pool : Reserved). pool.queue) (pool_of name pools)
-pool_queue name [] = refl
-pool_queue name (pool ∷ pools) = elim (cases_Bool (is_same name pool.0)) [
-  | inl holds ↦ rw holds refl
-  | inr fails ↦ rw fails (pool_queue name pools)
-]
-
 -- the first item of the pool that is found
 pub head_found : (name : PoolName) (pools : List (PoolName × Reserved)) (found : Option Reserved) → found ≡ pool_of name pools → option_and_then head_of (option_map (λ (pool : Reserved). pool.queue) found) ≡ option_and_then head_of (pool_of name (queues pools))
-head_found name pools found e = ap (λ (found : Option Reserved). option_and_then head_of (option_map (λ (pool : Reserved). pool.queue) found)) e ∙ ap (option_and_then head_of) (sym (pool_queue name pools))
+head_found name pools found e = ap (λ (found : Option Reserved). option_and_then head_of (option_map (λ (pool : Reserved). pool.queue) found)) e ∙ ap (option_and_then head_of) (sym (pool_of_queues name pools))
 
 -- once room is made in the pool to which messages come
-pub room_made : (app : PoolName) (most : ℕ) (before after : List (PoolName × Reserved)) → queues after ≡ queues before → (IsSome (pool_of app before) → HasMoreRoom app most before after) → IsSome (pool_of app after) → most ≤ room_of app after
+pub room_made : (app : PoolName) (most : ℕ) (before after : List (PoolName × Reserved)) → queues after ≡ queues before → (IsSome (pool_of app before) → most ≤ room_of app after) → IsSome (pool_of app after) → most ≤ room_of app after
 room_made app most before after same room there =
-    let was : IsSome (pool_of app before) = there_by_queues app before (subst (λ (pools : Named). IsSome (pool_of app pools)) same (queue_there app after there)) in
-    let more = rw (is_itself app) at (room was app) in
-    omega arith
+    room (there_by_queues app before (subst (λ (pools : Named). IsSome (pool_of app pools)) same (queue_there app after there)))
 
 -- there is still room once an item is taken
 pub room_left : (up : Option PoolName) (most few : ℕ) (name : PoolName) (before after : List (PoolName × Reserved)) → few ≤ most → HasRoomUp up most before → queues after ≡ changed name rest_of (queues before) → HasMoreRoom name 0 before after → HasRoomUp up few after
@@ -89,24 +79,19 @@ notice_first : (ports : List ℕ) (s number : ℕ) (it : Item) (shared : Shared)
 notice_first ports s number (item.Notice notice) shared kind first = (item.Notice notice, (number, first), tt)
 notice_first ports s number _ shared kind first = absurd kind
 
--- the first item of a pool that has one
-some_first : {A : Type 0} (o : Option A) → IsSome o → (a : A) × (o ≡ Some a)
-some_first None some = absurd cc
-some_first (Some a) some = (a, refl)
-
 pub packet_waits : (topology : Topology) (controllers s p : ℕ) (shared : Shared) → IsShared topology controllers shared → IsSome (first_item (Pkt s p) shared) → (packet : Packet) × IsFirst (Pkt s p) (item.Packet packet) shared × IsValidPacket packet
 packet_waits topology controllers s p shared fits some =
-    let head = some_first (first_item (Pkt s p) shared) some in
+    let head = some_is (first_item (Pkt s p) shared) some in
     packet_first topology.ports s p head.0.0 head.0.1 shared (item_kind topology controllers (Pkt s p) head.0.0 head.0.1 shared fits head.1) head.1
 
 pub message_waits : (topology : Topology) (controllers s : ℕ) (shared : Shared) → IsShared topology controllers shared → IsSome (first_item (Ctl s) shared) → (message : Message) × IsFirst (Ctl s) (item.Message message) shared × IsValidMessage message
 message_waits topology controllers s shared fits some =
-    let head = some_first (first_item (Ctl s) shared) some in
+    let head = some_is (first_item (Ctl s) shared) some in
     message_first topology.ports s head.0.0 head.0.1 shared (item_kind topology controllers (Ctl s) head.0.0 head.0.1 shared fits head.1) head.1
 
 pub notice_waits : (topology : Topology) (controllers s : ℕ) (shared : Shared) → IsShared topology controllers shared → IsSome (first_item (Note s) shared) → (it : Item) × IsFirst (Note s) it shared × IsCommand (Note s) it
 notice_waits topology controllers s shared fits some =
-    let head = some_first (first_item (Note s) shared) some in
+    let head = some_is (first_item (Note s) shared) some in
     notice_first topology.ports s head.0.0 head.0.1 shared (item_kind topology controllers (Note s) head.0.0 head.0.1 shared fits head.1) head.1
 
 -- a packet that waits, whatever it is
@@ -126,7 +111,7 @@ switch_there topology controllers _ s number it shared fits own first = absurd c
 -- a packet that waits is at a switch of the network
 pub packet_within : (topology : Topology) (controllers s p : ℕ) (shared : Shared) → IsShared topology controllers shared → IsSome (first_item (Pkt s p) shared) → s < length topology.ports
 packet_within topology controllers s p shared fits some =
-    let head = some_first (first_item (Pkt s p) shared) some in
+    let head = some_is (first_item (Pkt s p) shared) some in
     switch_there topology controllers (Pkt s p) s head.0.0 head.0.1 shared fits refl head.1
 
 -- a message that waits is at a switch of the network
@@ -134,11 +119,6 @@ pub message_within : (topology : Topology) (controllers s : ℕ) (shared : Share
 message_within topology controllers s shared fits (message, (number, first), valid) = switch_there topology controllers (Ctl s) s number (item.Message message) shared fits refl first
 
 -- ---- plans
-
--- what a switch found for a message is a plan for it, or says that it is no PACKET_OUT
-pub planned_for : (s : ℕ) (there : Option State) (state : State) (message : Message) (found : Option Planned) → there ≡ Some state → is_some found ≡ is_packet_out message → IfSome found (λ planned. planned_step state planned ≡ handled state message) → IfSome found (λ planned. CanCount state planned.counts) → IfSome found (λ planned. IsValidOuts planned.outs) → IfSome found (λ planned. length planned.outs.up + length planned.outs.out < 2 ^ 32) → IsPlanned s there message found
-planned_for s there state message (Some planned) at kind step fits valid few = (state, at, record { step = step; fits = fits; valid = valid; few = few })
-planned_for s there state message None at kind step fits valid few = sym kind
 
 -- what a switch is to do with a packet that waits
 pub packet_plan : (s p : ℕ) (packet : Packet) (shared : Shared) (switches : List State) (state : State) (planned : Planned) → IsFirst (Pkt s p) (item.Packet packet) shared → slice_get switches s ≡ Some state → planned_step state planned ≡ received state p packet → CanCount state planned.counts → IsValidOuts planned.outs → length planned.outs.up + length planned.outs.out < 2 ^ 32 → (it : Item) × IsFirst (Pkt s p) it shared × IsPlanFor (slice_get switches s) (Pkt s p) it planned

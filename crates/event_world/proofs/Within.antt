@@ -1,7 +1,7 @@
 -- What a shared part that is one of a network says of the first item of a pool.
 use Rattle.std.proofs.Common.{◌≡◌, ℕ, ◌+◌, ◌<◌, List, [], ◌∷◌, length, map, flat_map, zero, suc, Some, All, arith, subst}
 use Rattle.std.specs.List.{enumerate_from, range_with_len}
-use Rattle.std.proofs.lemmas.List.Elements.{All-append, All-cons, All-head, All-map, All-nil, All-same, All-tail, All-weaker}
+use Rattle.std.proofs.lemmas.List.Elements.{All-append, All-cons, All-head, All-map, All-nil, All-same, All-weaker}
 use Rattle.std.proofs.lemmas.Option.{option_and_then_some, some_pair_parts}
 use Rattle.listed.specs.Lists.{all_unmapped}
 use Rattle.message_pools.specs.Queue.{Queue, head_of}
@@ -14,6 +14,7 @@ use Rattle.topology.specs.declared.network.Topology.{Topology}
 use Rattle.event_world.specs.Fits.{IsItemOf, IsPool, IsShared}
 use Rattle.event_world.specs.Mail.{Shared}
 use Rattle.event_world.specs.World.{first_item}
+use Rattle.event_world.proofs.Lists.{all_joined}
 use Rattle.event_world.proofs.Named.{all_pool_of}
 
 -- what holds of each item holds of the first one
@@ -42,10 +43,6 @@ IsNameIn switches controllers hosts (Recv h) = h < hosts
 all_range : (P : ℕ → Type 0) (from count : ℕ) → ((n : ℕ) → n < from + count → P n) → All P (range_with_len from count)
 all_range P from zero below = All-nil P
 all_range P from (suc count) below = All-cons P from (range_with_len (from + 1) count) (below from (omega arith)) (all_range P (from + 1) count (λ n lt. below n (omega arith)))
-
-all_joined : {X Y : Type 0} (P : Y → Type 0) (f : X → List Y) (xs : List X) → All (λ x. All P (f x)) xs → All P (flat_map f xs)
-all_joined P f [] all = All-nil P
-all_joined {X = X} P f (x ∷ xs) all = All-append P (f x) (flat_map f xs) (All-head (λ (x : X). All P (f x)) x xs all) (all_joined P f xs (All-tail (λ (x : X). All P (f x)) x xs all))
 
 -- numbers of elements
 all_numbered : (P : ℕ → Type 0) (from : ℕ) (xs : List ℕ) → ((n : ℕ) → n < from + length xs → P n) → All (λ (one : ℕ × ℕ). P one.0) (enumerate_from from xs)

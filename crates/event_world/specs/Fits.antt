@@ -36,7 +36,7 @@ IsItemOf ports (Admin c) (item.Policy deny) = IsValidItem (item.Policy deny)
 IsItemOf ports (Recv h) (item.Packet packet) = IsValidItem (item.Packet packet)
 IsItemOf ports name other = ⊥
 
--- the switch at which a pool is lost when the switch goes down
+-- the switch that has to be up where something waits in the pool
 abbrev pub switch_of : PoolName → Option ℕ
 switch_of (Ctl s) = Some s
 switch_of (Pkt s p) = Some s
@@ -50,10 +50,12 @@ pub record IsPool (ports : List ℕ) (status : Status) (events : ℕ) (pool : Po
   pub numbers : next_number pool.1 ≤ 1 + events * (2 ^ 32 - 1)
   pub down : (s : ℕ) → switch_of pool.0 ≡ Some s → is_up status.switch_up s ≡ false → pool.1.items ≡ []
 
--- a shared part of a network under so many controllers: it has all that the network has
+-- a shared part of a network under so many controllers: it has all that the network has, and no host has received more packets
+-- than events happened
 pub record IsShared (topology : Topology) (controllers : ℕ) (shared : Shared) : Type 0 where
   pub status : IsStatus topology shared.status
   pub received : length shared.received ≡ length topology.hosts
+  pub counts : All (λ count. count ≤ shared.events) shared.received
   pub names : map (λ pool. pool.0) shared.pools ≡ names topology.ports controllers (length topology.hosts)
   pub pools : All (IsPool topology.ports shared.status shared.events) shared.pools
 

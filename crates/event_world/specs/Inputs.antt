@@ -76,7 +76,7 @@ pools_of topology s = Ctl s ∷ map (Pkt s) (ports_of topology s) ++ Note s ∷ 
 abbrev pub channel_of : Topology → ℕ → List PoolName
 channel_of topology s = Ctl s ∷ app_of topology s
 
--- ---- the table, a case for each input. An input that would not change the status does nothing.
+-- ---- the table, a case for each input. A failure of what is down, and a recovery of what is up, do nothing.
 
 -- a packet comes to the port at which the host is, if that switch is up
 abbrev pub injected : Status → Packet → Option (ℕ × ℕ) → Effect
@@ -101,8 +101,8 @@ link_up topology status link = record {
       else map (λ end. tells end.0 (Port end.1 false)) (ends_at topology link);
 }
 
--- all that waits at the switch, or came from it, is lost; its controller hears that it is gone, if the channel was up, and its
--- neighbours that their links are down
+-- all that waits at the switch is lost, and its messages to its controller; that hears that it is gone, if the channel was up,
+-- and its neighbours hear that their links are down
 abbrev pub switch_fails : Topology → Status → ℕ → Effect
 switch_fails topology status s = let after = record status { switch_up = slice_set status.switch_up s false } in record {
   status = after;

@@ -1,5 +1,5 @@
 //! The steps of the actors. Each takes the memory that it needs before it changes anything.
-ghost use Rattle.std.specs.Prelude.{◌≡◌, ◌+◌, ◌<◌, ◌^◌, length, slice_get, option_and_then, option_map, IfOk, IsSome, OnErr, OnOk, Some};
+ghost use Rattle.std.specs.Prelude.{◌≡◌, ◌+◌, ◌<◌, ◌^◌, length, slice_get, slice_index, option_and_then, option_map, IfOk, IsSome, OnErr, OnOk, Some};
 ghost use Rattle.listed.specs.Lists.{changed_at};
 ghost use Rattle.of10_match.specs.declared.packet.Packet.{Packet as PacketValue};
 ghost use Rattle.of10_messages.specs.Valid.{IsValidMessage};
@@ -56,12 +56,13 @@ impl<C: Controller> World<C> {
     fn receive(&mut self, setup: &Setup<C>, h: u16) -> Result<(), AllocError>
         requires setup { IsValidSetup setup.now }
         requires fits { Fits C.policies setup.now self.old }
+        requires events { self.old.shared.events < 2 ^ 31 }
         requires head { IsSome (first_item (Recv h) self.old.shared) }
         ensures ok { OnOk result (self.new ≡ with_item C.react setup.now.topology (Recv h) (first_item (Recv h) self.old.shared) self.old) }
         ensures fits { OnOk result (Fits C.policies setup.now (counted_world 0 self.new)) }
         ensures err { OnErr result (self.new ≡ self.old) }
     {
-        count_one(&mut self.shell.received, h)?;
+        count_one(&mut self.shell.received, h);
         self.shell.pools.take(PoolName::Recv(h));
         Ok(())
     }
@@ -272,19 +273,14 @@ impl<C: Controller> World<C> {
     }
 }
 
-// A host has received one packet more. That a count is full is told as want of memory: a run is too short for it.
-fn count_one(received: &mut Listed<u64>, h: u16) -> Result<(), AllocError>
-    requires { h < length received.old }
-    ensures ok { OnOk result (received.new ≡ changed_at h (λ count. count + 1) received.old) }
-    ensures err { OnErr result (received.new ≡ received.old) }
+// A host has received one packet more.
+fn count_one(received: &mut Listed<u64>, h: u16)
+    requires host { h < length received.old }
+    requires room { slice_index received.old h + 1 < 2 ^ 64 }
+    ensures { received.new ≡ changed_at h (λ count. count + 1) received.old }
 {
     let at = usize::from(h);
-    let count = received[at];
-    if count == u64::MAX {
-        return Err(AllocError);
-    }
-    received.replace(at, count + 1);
-    Ok(())
+    received.replace(at, received[at] + 1);
 }
 
 // The first item of a pool, with its number.

@@ -66,7 +66,7 @@ impl Event {
     }
 
     /// The number of the item that an internal event takes, and the position in the script of an input.
-    pub(crate) fn number(&self) -> u64
+    pub fn number(&self) -> u64
         ensures { result ≡ number_of self.now }
     {
         match *self {

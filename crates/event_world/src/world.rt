@@ -24,7 +24,8 @@ use thiserror::Error;
 /// Why a step was refused.
 #[derive(Clone, Copy, Debug, PartialEq, Eq, Error)]
 pub enum StepNo {
-    /// The event's pool has no item, or its first one has another number, which is given; or a name is out of range.
+    /// The event's pool has no item, or its first one has another number, which is given; or a name is out of range, or the
+    /// script has no such line.
     #[error("the event is not enabled")]
     NotEnabled { head: Option<u64> },
     #[error("out of memory")]

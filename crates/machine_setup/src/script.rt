@@ -2,7 +2,7 @@
 use listed::Listed;
 use of10_match::{Match, Packet};
 
-/// One thing that is done to the network from outside. One that would not change what it names does nothing.
+/// One thing that is done to the network from outside. A failure of what is down, and a recovery of what is up, do nothing.
 #[derive(Clone, Copy, Debug)]
 pub enum Input {
     /// A host sends a packet. It comes to the port at which the host is, if that switch is up.

@@ -1,5 +1,5 @@
 //! A queue whose items are numbered in the order of their coming.
-ghost use Rattle.std.specs.Prelude.{◌≡◌, ◌+◌, ◌<◌, ◌≤◌, ◌^◌, ◌↔◌, [], length, IsTrue, IfOk, OnOk, option_map};
+ghost use Rattle.std.specs.Prelude.{◌≡◌, ◌+◌, ◌<◌, ◌≤◌, ◌^◌, ◌↔◌, [], length, IsTrue, IfOk, OnOk, max, option_map};
 ghost use Rattle.message_pools.specs.Queue.{empty_queue, next_number, head_of, rest_of, with_last, flushed};
 
 use crate::item::Item;
@@ -8,8 +8,8 @@ use std::collections::VecDeque;
 use std::marker::Model;
 
 /// The items that wait, first in, first out. Contracts see the queue, and beside it the room that was
-/// reserved and not used yet, so that a put that follows a `reserve` can't fail. Room is no part of what a
-/// pool stands for: a copy has none.
+/// reserved and not used yet, so that a put that follows a `reserve` can't fail. A copy has the same queue, and
+/// no such room.
 #[derive(Debug, Drop)]
 pub struct Pool {
     items: VecDeque<Item>,
@@ -45,10 +45,11 @@ impl Pool {
         }
     }
 
-    /// Makes room for `more` items in all. The queue is the same whatever the answer.
+    /// Makes room for `more` items in all: room that is there already counts. The queue is the same whatever the answer.
     pub fn reserve(&mut self, more: usize) -> Result<(), AllocError>
         ensures room { OnOk result (more ≤ self.new.spare) }
         ensures kept { self.old.spare ≤ self.new.spare }
+        ensures most { self.new.spare ≤ max self.old.spare more }
         ensures queue { self.new.queue ≡ self.old.queue }
     {
         if more > self.spare {
@@ -69,6 +70,7 @@ impl Pool {
     pub fn reserve_one(&mut self) -> Result<(), AllocError>
         ensures room { OnOk result (self.old.spare + 1 ≤ self.new.spare) }
         ensures kept { self.old.spare ≤ self.new.spare }
+        ensures most { self.new.spare ≤ self.old.spare + 1 }
         ensures queue { self.new.queue ≡ self.old.queue }
     {
         self.reserve(self.spare.checked_add(1).ok_or(AllocError)?)
@@ -132,7 +134,8 @@ impl Pool {
 
     /// A second pool with the same queue.
     pub fn copy(&self) -> Result<Pool, AllocError>
-        ensures { IfOk result (λ pool. pool.queue ≡ self.now.queue) }
+        ensures queue { IfOk result (λ pool. pool.queue ≡ self.now.queue) }
+        ensures room { IfOk result (λ pool. pool.spare ≡ 0) }
     {
         Ok(Pool {
             items: self.items.clone()?,

@@ -1,5 +1,5 @@
 -- The pool of a name, and what a change to it leaves.
-use Rattle.std.proofs.Common.{◌≡◌, ◌≢◌, ◌∙◌, ◌⊎◌, ℕ, ◌+◌, ◌<◌, ◌≤◌, Bool, true, false, cond, List, [], ◌∷◌, length, map, replicate, slice_get, slice_set, Option, Some, None, option_map, zero, suc, ap, arith, inl, inr, refl, subst, sym}
+use Rattle.std.proofs.Common.{◌≡◌, ◌≢◌, ◌∙◌, ◌⊎◌, ℕ, ◌+◌, ◌<◌, ◌≤◌, Bool, true, false, cond, List, [], ◌∷◌, length, max, map, replicate, slice_get, slice_set, Option, Some, None, option_map, zero, suc, ap, arith, inl, inr, refl, subst, sym}
 use Rattle.std.specs.Prelude.{filter_map, unwrap_or}
 use Rattle.std.proofs.lemmas.Bool.{both_ways, cases_Bool}
 use Rattle.std.proofs.lemmas.List.{length-map, map-set}
@@ -10,7 +10,7 @@ use Rattle.pool_book.specs.declared.name.PoolName.{PoolName}
 use Rattle.pool_book.specs.Change.{is_itself, same_name}
 use Rattle.pool_book.specs.Names.{is_same, names}
 use Rattle.pool_book.specs.Places.{Booked, Found, IsName, Network, Numbered, marks, place, waits}
-use Rattle.pool_book.specs.Pools.{HasRoomFor, UsesRoom, changed, pool_of, queues, room_of}
+use Rattle.pool_book.specs.Pools.{HasRoomFor, HasRoomUpTo, UsesRoom, changed, pool_of, queues, room_of}
 use Rattle.pool_book.specs.Order.{named, placed}
 
 -- ---- names
@@ -135,6 +135,12 @@ uses_room name used pools n old new at only enough other = elim (room_after name
   | inr (fails, same) ↦ rw (fails, same) (omega arith)
 ]
 
+room_up_to : (name : PoolName) (most : ℕ) (pools : List (PoolName × Reserved)) (n : ℕ) (old new : Reserved) → slice_get pools n ≡ Some (name, old) → ((k : ℕ) (other : PoolName × Reserved) → slice_get pools k ≡ Some other → is_same name other.0 ≡ true → k ≡ n) → new.spare ≤ max old.spare most → HasRoomUpTo name most pools (slice_set pools n (name, new))
+room_up_to name most pools n old new at only enough other = elim (room_after name pools n old new at only other) [
+  | inl (holds, before, after) ↦ rw (holds, before, after) enough
+  | inr (fails, same) ↦ rw (fails, same) (omega arith)
+]
+
 -- nothing changes the room
 pub same_room : (name : PoolName) (pools : List (PoolName × Reserved)) → HasRoomFor name 0 pools pools
 same_room name pools other = elim (cases_Bool (is_same name other)) [
@@ -218,6 +224,17 @@ pub touched_room : (name : PoolName) (more : ℕ) (pools : List (PoolName × Res
 touched_room name more pools n pool new found at enough =
     subst (λ m. HasRoomFor name more pools (slice_set pools n (m, new))) (found_same name pools n pool found at)
     (has_room name more pools n pool.1 new (found_name name pools n pool found at) found.1 enough)
+
+-- the pool that was written has the room that it was given
+pub touched_own : (name : PoolName) (pools : List (PoolName × Reserved)) (n : ℕ) (pool : PoolName × Reserved) (new : Reserved) → Found name pools (Some n) → slice_get pools n ≡ Some pool → room_of name (slice_set pools n (pool.0, new)) ≡ new.spare
+touched_own name pools n pool new found at =
+    subst (λ m. room_of name (slice_set pools n (m, new)) ≡ new.spare) (found_same name pools n pool found at)
+    (ap (λ (pool : Option Reserved). unwrap_or (option_map (λ pool. pool.spare) pool) 0) (own_pool name pools n pool.1 new (found_name name pools n pool found at) found.1))
+
+pub touched_up_to : (name : PoolName) (most : ℕ) (pools : List (PoolName × Reserved)) (n : ℕ) (pool : PoolName × Reserved) (new : Reserved) → Found name pools (Some n) → slice_get pools n ≡ Some pool → new.spare ≤ max pool.1.spare most → HasRoomUpTo name most pools (slice_set pools n (pool.0, new))
+touched_up_to name most pools n pool new found at enough =
+    subst (λ m. HasRoomUpTo name most pools (slice_set pools n (m, new))) (found_same name pools n pool found at)
+    (room_up_to name most pools n pool.1 new (found_name name pools n pool found at) found.1 enough)
 
 pub touched_use : (name : PoolName) (used : ℕ) (pools : List (PoolName × Reserved)) (n : ℕ) (pool : PoolName × Reserved) (new : Reserved) → Found name pools (Some n) → slice_get pools n ≡ Some pool → pool.1.spare ≤ new.spare + used → UsesRoom name used pools (slice_set pools n (pool.0, new))
 touched_use name used pools n pool new found at enough =

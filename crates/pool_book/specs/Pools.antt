@@ -1,5 +1,5 @@
 -- Pools by their names: what waits in each, and what a change to one of them leaves.
-use Rattle.std.specs.Prelude.{◌≡◌, ℕ, ◌+◌, ◌≤◌, List, [], map, filter, filter_map, slice_get, All, Option, Some, None, option_map, unwrap_or, if◌then◌else◌}
+use Rattle.std.specs.Prelude.{◌≡◌, ℕ, ◌+◌, ◌≤◌, List, [], map, filter, filter_map, slice_get, All, Option, Some, None, option_map, unwrap_or, max, if◌then◌else◌}
 use Rattle.message_pools.specs.Queue.{Queue, Reserved, empty_queue, head_of}
 use Rattle.pool_book.specs.declared.actor.Actor.{Actor}
 use Rattle.pool_book.specs.declared.name.PoolName.{PoolName}
@@ -54,3 +54,7 @@ HasRoomFor name more before after = (other : PoolName) → room_of other before 
 -- each pool has at least as much room as before, but the one of a name may have so much less
 abbrev pub UsesRoom : PoolName → ℕ → List (PoolName × Reserved) → List (PoolName × Reserved) → Type 0
 UsesRoom name used before after = (other : PoolName) → room_of other before ≤ room_of other after + (if is_same name other then used else 0)
+
+-- no pool has more room than before, but the one of a name may have so much in all
+abbrev pub HasRoomUpTo : PoolName → ℕ → List (PoolName × Reserved) → List (PoolName × Reserved) → Type 0
+HasRoomUpTo name most before after = (other : PoolName) → room_of other after ≤ max (room_of other before) (if is_same name other then most else 0)

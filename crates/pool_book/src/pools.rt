@@ -3,7 +3,7 @@ ghost use Rattle.std.specs.Prelude.{◌≡◌, [], ℕ, ◌<◌, ◌≤◌, ◌^
 ghost use Rattle.message_pools.specs.Queue.{empty_queue, flushed, head_of, next_number, rest_of, with_last};
 ghost use Rattle.pool_book.specs.Names.{names};
 ghost use Rattle.pool_book.specs.Places.{FirstWithin, Found, head_name, marks};
-ghost use Rattle.pool_book.specs.Pools.{HasRoomFor, IsQuiet, UsesRoom, changed, empty_pools, first_waiting, first_waiting_for, pool_of, queues, room_of};
+ghost use Rattle.pool_book.specs.Pools.{HasRoomFor, HasRoomUpTo, IsQuiet, UsesRoom, changed, empty_pools, first_waiting, first_waiting_for, pool_of, queues, room_of};
 
 use crate::actor::Actor;
 use crate::all_names::all_names;
@@ -69,28 +69,29 @@ impl Pools {
         Some(pool)
     }
 
-    /// Makes room for one item more in the pool of a name, if there is such a pool.
+    /// Makes room for one item in the pool of a name, if there is such a pool, beside the room that it has already.
     pub fn make_room(&mut self, name: PoolName) -> Result<(), AllocError>
         ensures room { OnOk result (IsSome (pool_of name self.old) → HasRoomFor name 1 self.old self.new) }
         ensures kept { HasRoomFor name 0 self.old self.new }
         ensures queues { queues self.new ≡ queues self.old }
     {
-        self.make_room_for(name, 1)
+        match self.number(name) {
+            Some(number) => self.pools.item_mut(number).1.reserve_one(),
+            None => Ok(()),
+        }
     }
 
-    /// Makes room for so many items more in the pool of a name, if there is such a pool.
+    /// Makes room for so many items in all in the pool of a name, if there is such a pool: room that it has already counts.
     pub fn make_room_for(&mut self, name: PoolName, count: usize) -> Result<(), AllocError>
-        ensures room { OnOk result (IsSome (pool_of name self.old) → HasRoomFor name count self.old self.new) }
+        ensures room { OnOk result (IsSome (pool_of name self.old) → count ≤ room_of name self.new) }
         ensures kept { HasRoomFor name 0 self.old self.new }
+        ensures most { HasRoomUpTo name count self.old self.new }
         ensures queues { queues self.new ≡ queues self.old }
     {
-        let number = match self.number(name) {
-            Some(number) => number,
-            None => return Ok(()),
-        };
-        let (_, pool) = &self.pools[number];
-        let room = pool.spare().checked_add(count).ok_or(AllocError)?;
-        self.pools.item_mut(number).1.reserve(room)
+        match self.number(name) {
+            Some(number) => self.pools.item_mut(number).1.reserve(count),
+            None => Ok(()),
+        }
     }
 
     /// Puts an item last into the pool of a name, where there is room for it; if there is no such pool the item is gone.

@@ -9,7 +9,8 @@ use of10_match::Match;
 pub enum Invariant {
     /// No packet from a host comes to the same port with the same header twice.
     LoopFree,
-    /// No packet from a host is sent out of a port at which nothing takes it.
+    /// No packet from a host is sent out of a port that an action names, or back out of its own, where nothing takes it. What
+    /// FLOOD and ALL send does not count.
     NoBlackHole,
     /// No packet that host `src` sends and the match takes comes to host `dst`.
     Forbid { src: u16, dst: u16, matches: Match },

@@ -76,25 +76,17 @@ returns-clause-ok g c =
     let sent : c.into_list-sent.result ≡ reaction.sent = c.into_list-sent.ensures.list ∙ c.in_ok-handle.ensures.sent ∙ ap (λ (before : List (ℕ × Message)). before ++ reaction.sent) c.new-out.ensures in
     let shared = c.in_ok-exchange.ensures.ok ∙ ap (λ (mail : Mail). delivered mail (taken c.args.name (shared_of c.self.inside.shell))) (c.in_ok-mail.ensures ∙ ap (mail_down setup.topology c.self.inside.shell.status c.args.c) sent) in
     let states = c.replace.ensures ∙ ap (λ (n : ℕ). slice_set c.self.inside.controllers n c.handle.new.self) c.from.ensures ∙ ap (slice_set c.self.inside.controllers c.args.c) c.in_ok-handle.ensures.state in
-    let becomes = heard_was g.C.Controller.react setup.topology (length setup.controllers) c.args.c c.args.name state item world inside (shared_of c.exchange.new.self) c.replace.new.self same h is at shared states in
-    becomes
+    heard_was g.C.Controller.react setup.topology (length setup.controllers) c.args.c c.args.name state item world inside (shared_of c.exchange.new.self) c.replace.new.self same h is at shared states
 
 pub returns-clause-fits : goal.returns-clause-fits
 returns-clause-fits g c =
     let world = c.args.self.now in
     let setup = c.args.setup.now in
     let h = hears setup.topology (length setup.controllers) c.args.c c.args.name world.shared c.requires.fits.shared c.requires.name c.requires.head in
-    let inside : Situation g.row.C.Denot = record { shared = shared_of c.self.inside.shell; switches = c.self.inside.switches; controllers = c.self.inside.controllers } in
-    let same : inside ≡ world = c.self.view_is in
     let item = c.in_ok-item.item in
     let state = c.in_ok-after.after in
     let reaction = g.C.Controller.react state item in
-    let is : news_at c.args.name world.shared ≡ Some item = c.in_ok-item.ensures in
-    let at : slice_get world.controllers c.args.c ≡ Some state = c.in_ok-after.ensures in
     let sent : c.into_list-sent.result ≡ reaction.sent = c.into_list-sent.ensures.list ∙ c.in_ok-handle.ensures.sent ∙ ap (λ (before : List (ℕ × Message)). before ++ reaction.sent) c.new-out.ensures in
-    let shared = c.in_ok-exchange.ensures.ok ∙ ap (λ (mail : Mail). delivered mail (taken c.args.name (shared_of c.self.inside.shell))) (c.in_ok-mail.ensures ∙ ap (mail_down setup.topology c.self.inside.shell.status c.args.c) sent) in
-    let states = c.replace.ensures ∙ ap (λ (n : ℕ). slice_set c.self.inside.controllers n c.handle.new.self) c.from.ensures ∙ ap (slice_set c.self.inside.controllers c.args.c) c.in_ok-handle.ensures.state in
-    let becomes = heard_was g.C.Controller.react setup.topology (length setup.controllers) c.args.c c.args.name state item world inside (shared_of c.exchange.new.self) c.replace.new.self same h is at shared states in
     let valid : AreValidMessages reaction.sent = subst AreValidMessages sent c.into_list-sent.ensures.valid in
     let counts : CountsPolicies item (g.C.Controller.policies state) (g.C.Controller.policies reaction.state) = subst (λ after. CountsPolicies item (g.C.Controller.policies state) (g.C.Controller.policies after)) c.in_ok-handle.ensures.state c.in_ok-handle.ensures.policies in
-    fits_heard g.C.Controller.react g.C.Controller.policies setup c.args.c c.args.name state item world _ h c.requires.fits is at valid c.in_ok-handle.ensures.few counts becomes
+    fits_heard g.C.Controller.react g.C.Controller.policies setup c.args.c c.args.name state item world _ h c.requires.fits c.in_ok-item.ensures c.in_ok-after.ensures valid c.in_ok-handle.ensures.few counts (returns-clause-ok g c)

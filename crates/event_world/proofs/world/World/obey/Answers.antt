@@ -97,8 +97,7 @@ returns-clause-ok g c =
     let tells = told c.args.name it before step (record { message = c.a_step_tells_few.ensures.message; notice = c.a_step_tells_few.ensures.notice }) command.command c.in_ok-outs-in-Some.ensures.ok in
     let takes = takes_command c.args.name c.args.s c.in-Some.field-0-0 it before step world.shared world.switches c.requires.name command c.in_ok-outs-in-Some.ensures.ok in
     let sent = sent_up setup.topology c.args.s step (taken c.args.name (shared_of shell)) c.up_from-up.result (queues c.take.new.self) (queues c.deliver_up.new.pools) tells.1 c.up_from-up.ensures c.deliver_up.ensures (c.take.ensures.queues ∙ ap (λ (pools : Named). (taken c.args.name (record (shared_of shell) { pools = pools })).pools) c.in_ok-make_room_up.ensures.queues) in
-    let is = done g.C.Controller.react setup.topology c.args.name c.args.s c.from-at.result step world inside (record (shared_of shell) { pools = queues c.deliver_up.new.pools }) c.command.new.switch same c.from-at.ensures takes sent refl in
-    is
+    done g.C.Controller.react setup.topology c.args.name c.args.s c.from-at.result step world inside (record (shared_of shell) { pools = queues c.deliver_up.new.pools }) c.command.new.switch same c.from-at.ensures takes sent refl
 
 pub returns-clause-fits : goal.returns-clause-fits
 returns-clause-fits g c =
@@ -112,10 +111,7 @@ returns-clause-fits g c =
     let command = commanding g.C.Controller.policies setup world inside c.args.name c.args.s c.from-at.result c.in-Some.field-0-0 it before (queues c.make_room_up.new.pools) c.requires.fits c.requires.name c.requires.item same c.from-at.ensures c.in_ok-make_room_up.ensures.queues (rw c.in-Some.is at c.head_in.ensures) c.item_mut.ensures.value in
     let outs = c.in_ok-outs-in-Some.outs in
     let step : Step = record { state = c.command.new.switch; up = outs.up; out = outs.out } in
-    let tells = told c.args.name it before step (record { message = c.a_step_tells_few.ensures.message; notice = c.a_step_tells_few.ensures.notice }) command.command c.in_ok-outs-in-Some.ensures.ok in
     let takes = takes_command c.args.name c.args.s c.in-Some.field-0-0 it before step world.shared world.switches c.requires.name command c.in_ok-outs-in-Some.ensures.ok in
-    let sent = sent_up setup.topology c.args.s step (taken c.args.name (shared_of shell)) c.up_from-up.result (queues c.take.new.self) (queues c.deliver_up.new.pools) tells.1 c.up_from-up.ensures c.deliver_up.ensures (c.take.ensures.queues ∙ ap (λ (pools : Named). (taken c.args.name (record (shared_of shell) { pools = pools })).pools) c.in_ok-make_room_up.ensures.queues) in
-    let is = done g.C.Controller.react setup.topology c.args.name c.args.s c.from-at.result step world inside (record (shared_of shell) { pools = queues c.deliver_up.new.pools }) c.command.new.switch same c.from-at.ensures takes sent refl in
     fits_taken g.C.Controller.react g.C.Controller.policies setup c.args.name c.args.s step world _ c.requires.fits
     (record { message = c.a_step_keeps_the_switch.ensures.message; packet = c.a_step_keeps_the_switch.ensures.packet; notice = c.a_step_keeps_the_switch.ensures.notice })
-    takes c.in_ok-outs-in-Some.ensures.valid.up c.in_ok-outs-in-Some.ensures.valid.out c.in_ok-outs-in-Some.ensures.few is
+    takes c.in_ok-outs-in-Some.ensures.valid.up c.in_ok-outs-in-Some.ensures.valid.out c.in_ok-outs-in-Some.ensures.few (returns-clause-ok g c)
