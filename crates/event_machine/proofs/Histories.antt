@@ -1,62 +1,38 @@
 -- A history and the one that is longer by an entry.
-use Rattle.std.proofs.Common.{◌≡◌, ℕ, ◌+◌, ◌≤◌, List, [], ◌∷◌, ◌++◌, length, map, take, slice_get, Option, Some, None, Bool, true, false, if◌then◌else◌, ◌==◌, refl, ap, sym, ◌∙◌, subst, arith, inl, inr}
+use Rattle.std.proofs.Common.{◌≡◌, ℕ, ◌+◌, ◌≤◌, List, [], ◌∷◌, ◌++◌, length, map, take, slice_get, Option, Some, None, if◌then◌else◌, ◌==◌, refl, ap, sym, ◌∙◌, subst, arith, inl, inr}
 use Rattle.std.specs.List.{fold, count_by}
+use Rattle.std.specs.Option.{option_map_or}
 use Rattle.std.proofs.lemmas.List.{take_more, map-append, length-take}
 use Rattle.std.proofs.lemmas.List.Sums.{fold-append, sum_by_push, count_by-le-length}
 use Rattle.std.proofs.lemmas.Option.{get_or_from_slice_get, slice_get_within, same_Some}
 use Rattle.std.proofs.lemmas.Bool.{cases_lt}
-use Rattle.event_machine.specs.declared.event.Event.{Event}
-use Rattle.event_machine.specs.declared.event.Event.TheVariants.{In, Pkt}
-use Rattle.event_machine.specs.declared.script.Input.{Input}
-use Rattle.event_machine.specs.declared.script.Input.TheVariants.{Inject}
-use Rattle.event_machine.specs.declared.script.Line.{Line}
-use Rattle.event_machine.specs.declared.setup.Setup.{Setup}
-use Rattle.event_machine.specs.declared.trace.Entry.{Entry}
-use Rattle.of10_match.specs.declared.packet.Packet.{Packet}
-use Rattle.event_machine.specs.declared.trace.Trace.{Trace}
+use Rattle.controller_api.specs.Reaction.{Reaction}
+use Rattle.controller_api.specs.declared.item.UpItem.{UpItem}
+use Rattle.machine_setup.specs.declared.script.Line.{Line}
+use Rattle.machine_setup.specs.declared.setup.Setup.{Setup}
+use Rattle.message_pools.specs.declared.item.Item.{Item}
+use Rattle.pool_book.specs.declared.name.PoolName.{PoolName}
+use Rattle.pool_book.specs.declared.name.PoolName.TheVariants as pool
+use Rattle.topology.specs.declared.network.Topology.{Topology}
+use Rattle.event_world.specs.Fits.{Fits}
+use Rattle.event_world.specs.World.{Situation, acted, at_controller, at_switch, first_item, happened, heard_by, next, start, with_item, with_line}
+use Rattle.event_world.specs.declared.event.Event.{Event}
+use Rattle.event_world.specs.declared.event.Event.TheVariants as event
+use Rattle.event_machine.specs.Legal.{EndsAs, IsFirstWrong, IsLegalIn, IsNextOfWorker, IsSoundTo, IsWrong, IsWrongEntry, earlier_of, world_after, world_before}
+use Rattle.event_machine.specs.Numbers.{CountsEntry, number_of}
 use Rattle.event_machine.specs.declared.legal.LogNo.{LogNo}
 use Rattle.event_machine.specs.declared.legal.LogNo.TheVariants.{NotLegal, WorkerOrder, EndWrong, OutOfMemory}
 use Rattle.event_machine.specs.declared.numbers.Numbers.{Numbers}
-use Rattle.event_machine.specs.World.{Situation, start, next, is_up, arrived, with_input, with_line, Fits}
-use Rattle.event_machine.specs.Legal.{world_before, earlier_of, IsLegal, IsLegalEvent, IsLegalIn, IsWrongIn, IsNotLegalAt, IsOutOfOrderAt, IsWrong, IsNextOfWorker, IsSoundTo, EndsAs, world_after}
-use Rattle.event_machine.specs.Numbers.{number_of, CountsEntry}
+use Rattle.event_machine.specs.declared.trace.Entry.{Entry}
+use Rattle.event_machine.specs.declared.trace.Trace.{Trace}
 
--- ---- the number of events
-
--- what an event does, but for the counts, leaves the number of events
-landed_events : (packet : Packet) (world : Situation) (place : ℕ × ℕ) (up : Bool) → is_up world.status.switch_up place.0 ≡ up → (arrived packet world (Some place)).events ≡ world.events
-landed_events packet world place true e = rw e refl
-landed_events packet world place false e = rw e refl
-
-arrived_events : (packet : Packet) (world : Situation) (place : Option (ℕ × ℕ)) → (arrived packet world place).events ≡ world.events
-arrived_events packet world None = refl
-arrived_events packet world (Some place) = landed_events packet world place (is_up world.status.switch_up place.0) refl
-
-input_events : (input : Input) (world : Situation) → (with_input input world).events ≡ world.events
-input_events (Inject host packet) world = arrived_events packet world (slice_get world.status.place host)
-
-line_events : (line : Option Line) (world : Situation) → (with_line line world).events ≡ world.events
-line_events None world = refl
-line_events (Some line) world = input_events line.input world
-
--- each event counts for one
-pub next_events : (setup : Setup) (world : Situation) (event : Event) → (next setup world event).events ≡ world.events + 1
-next_events setup world (In position) = ap (λ (n : ℕ). n + 1) (line_events (slice_get setup.script position) world)
-next_events setup world (Pkt s p number) = refl
-
--- ---- one more entry
+-- ---- the front of a history
 
 -- the front that is longer by one
 front_more : (entries : List Entry) (at : ℕ) (entry : Entry) → slice_get entries at ≡ Some entry → take (at + 1) entries ≡ take at entries ++ entry ∷ []
 front_more entries at entry e = take_more entries at entry (slice_get_within entries at entry e) ∙ ap (λ x. take at entries ++ x ∷ []) (get_or_from_slice_get entries at entry entry e)
 
-pub world_more : (setup : Setup) (entries : List Entry) (at : ℕ) (entry : Entry) → slice_get entries at ≡ Some entry → world_before setup entries (at + 1) ≡ next setup (world_before setup entries at) entry.event
-world_more setup entries at entry e =
-    ap (λ (front : List Entry). fold (next setup) (start setup) (map (λ entry. entry.event) front)) (front_more entries at entry e)
-    ∙ ap (λ (events : List Event). fold (next setup) (start setup) events) (map-append (λ (entry : Entry). entry.event) (take at entries) (entry ∷ []))
-    ∙ fold-append (next setup) (start setup) (map (λ (entry : Entry). entry.event) (take at entries)) (entry.event ∷ [])
-
-pub earlier_more : (entries : List Entry) (at : ℕ) (entry : Entry) (worker : ℕ) → slice_get entries at ≡ Some entry → earlier_of entries (at + 1) worker ≡ earlier_of entries at worker + (if entry.worker == worker then 1 else 0)
+earlier_more : (entries : List Entry) (at : ℕ) (entry : Entry) (worker : ℕ) → slice_get entries at ≡ Some entry → earlier_of entries (at + 1) worker ≡ earlier_of entries at worker + (if entry.worker == worker then 1 else 0)
 earlier_more entries at entry worker e =
     ap (λ (front : List Entry). count_by (λ entry. entry.worker == worker) front) (front_more entries at entry e)
     ∙ sum_by_push (λ (entry : Entry). if entry.worker == worker then 1 else 0) (take at entries) entry
@@ -68,64 +44,123 @@ earlier_within entries at worker =
     let cut = length-take at entries in
     omega arith
 
-pub sound_none : (setup : Setup) (entries : List Entry) → IsSoundTo setup entries 0
-sound_none setup entries = λ at entry lt. absurd (omega arith)
+module _ {C : Type 0} (react : C → UpItem → Reaction C) where
+  -- ---- the number of events
 
-pub sound_more : (setup : Setup) (entries : List Entry) (place : ℕ) (entry : Entry) → slice_get entries place ≡ Some entry → IsSoundTo setup entries place → IsLegal setup entries place entry → IsNextOfWorker entries place entry → IsSoundTo setup entries (place + 1)
-sound_more setup entries place entry here sound legal number = λ at other lt there. elim (cases_lt at place) [
-  | inl before ↦ sound at other before there
-  | inr after ↦
-      let same : at ≡ place = omega arith in
-      let equal : entry ≡ other = same_Some entry other (sym here ∙ ap (λ n. slice_get entries n) (sym same) ∙ there) in
-      subst (λ (n : ℕ). IsLegal setup entries n other × IsNextOfWorker entries n other) (sym same)
-      (subst (λ (x : Entry). IsLegal setup entries place x × IsNextOfWorker entries place x) equal (legal, number))
-]
+  -- what is done where something is found, and leaves the number of events, leaves it where nothing is found too
+  found_events : {A : Type 0} (does : A → Situation C) (world : Situation C) (found : Option A) → ((x : A) → (does x).shared.events ≡ world.shared.events)
+      → (option_map_or does found world).shared.events ≡ world.shared.events
+  found_events does world None stays = refl
+  found_events does world (Some x) stays = stays x
 
--- ---- a walk along a history
+  switch_events : (topology : Topology) (name : PoolName) (item : Item) (s : ℕ) (world : Situation C) → (at_switch react topology name item s world).shared.events ≡ world.shared.events
+  switch_events topology name item s world = found_events _ world (slice_get world.switches s) (λ state. refl)
 
--- what is known before the entry at a place: the world and the numbers that the earlier entries lead to, and that these are sound
-pub record Follows (setup : Setup) (entries : List Entry) (at : ℕ) (world : Situation) (numbers : Numbers) : Type 0 where
-  pub comes_to : world ≡ world_before setup entries at
-  pub fits : Fits setup world
-  pub events : world.events ≡ at
-  pub counted : (worker : ℕ) → number_of numbers worker ≡ earlier_of entries at worker
-  pub sound : IsSoundTo setup entries at
+  controller_events : (topology : Topology) (item : Option UpItem) (c : ℕ) (world : Situation C) → (at_controller react topology item c world).shared.events ≡ world.shared.events
+  controller_events topology None c world = refl
+  controller_events topology (Some item) c world = found_events _ world (slice_get world.controllers c) (λ state. refl)
 
--- an entry is legal in a world exactly where it is legal at the place that leads to the world
-legal_here : (setup : Setup) (entries : List Entry) (at : ℕ) (entry : Entry) (world : Situation) → world ≡ world_before setup entries at → IsLegalIn setup world at entry → IsLegal setup entries at entry
-legal_here setup entries at entry world e h = record { room = h.0; event = subst (λ (w : Situation). IsLegalEvent setup w entry.event entry.item) e h.1 }
+  acted_events : (topology : Topology) (name : PoolName) (item : Item) (world : Situation C) → (acted react topology name item world).shared.events ≡ world.shared.events
+  acted_events topology (pool.Ctl s) item world = switch_events topology (pool.Ctl s) item s world
+  acted_events topology (pool.Pkt s p) item world = switch_events topology (pool.Pkt s p) item s world
+  acted_events topology (pool.Note s) item world = switch_events topology (pool.Note s) item s world
+  acted_events topology (pool.App c s) item world = controller_events topology (heard_by (pool.App c s) item) c world
+  acted_events topology (pool.Admin c) item world = controller_events topology (heard_by (pool.Admin c) item) c world
+  acted_events topology (pool.Recv h) item world = refl
 
-legal_in : (setup : Setup) (entries : List Entry) (at : ℕ) (entry : Entry) (world : Situation) → world ≡ world_before setup entries at → IsLegal setup entries at entry → IsLegalIn setup world at entry
-legal_in setup entries at entry world e h = (h.room, subst (λ (w : Situation). IsLegalEvent setup w entry.event entry.item) (sym e) h.event)
+  item_events : (topology : Topology) (name : PoolName) (head : Option (ℕ × Item)) (world : Situation C) → (with_item react topology name head world).shared.events ≡ world.shared.events
+  item_events topology name None world = refl
+  item_events topology name (Some head) world = acted_events topology name head.1 _
 
--- the walk goes on by an entry that is sound
-pub follows_more : (setup : Setup) (entries : List Entry) (at : ℕ) (entry : Entry) (world after : Situation) (numbers later : Numbers) → slice_get entries at ≡ Some entry → Follows setup entries at world numbers
-    → IsLegalIn setup world at entry → entry.number ≡ number_of numbers entry.worker → after ≡ next setup world entry.event → CountsEntry numbers later entry.worker → Fits setup after
-    → Follows setup entries (at + 1) after later
-follows_more setup entries at entry world after numbers later here known legal number e counts fits = record {
-  comes_to = e ∙ ap (λ (w : Situation). next setup w entry.event) known.comes_to ∙ sym (world_more setup entries at entry here);
-  fits = fits;
-  events = ap (λ (w : Situation). w.events) e ∙ next_events setup world entry.event ∙ ap (λ n. n + 1) known.events;
-  counted = λ worker. counts worker ∙ ap (λ n. n + (if entry.worker == worker then 1 else 0)) (known.counted worker) ∙ sym (earlier_more entries at entry worker here);
-  sound = sound_more setup entries at entry here known.sound (legal_here setup entries at entry world known.comes_to legal) (number ∙ known.counted entry.worker);
-}
+  line_events : (topology : Topology) (line : Option Line) (world : Situation C) → (with_line react topology line world).shared.events ≡ world.shared.events
+  line_events topology None world = refl
+  line_events topology (Some line) world = refl
 
--- the walk has come to the end
-pub follows_all : (setup : Setup) (entries : List Entry) (at : ℕ) (world : Situation) (numbers : Numbers) → length entries ≡ at → Follows setup entries at world numbers → Follows setup entries (length entries) world numbers
-follows_all setup entries at world numbers e known = subst (λ n. Follows setup entries n world numbers) (sym e) known
+  happened_events : (setup : Setup C) (world : Situation C) (event : Event) → (happened react setup world event).shared.events ≡ world.shared.events
+  happened_events setup world (event.In position) = line_events setup.topology (slice_get setup.script position) world
+  happened_events setup world (event.Ctl s item) = item_events setup.topology (pool.Ctl s) (first_item (pool.Ctl s) world.shared) world
+  happened_events setup world (event.Pkt s p item) = item_events setup.topology (pool.Pkt s p) (first_item (pool.Pkt s p) world.shared) world
+  happened_events setup world (event.Note s item) = item_events setup.topology (pool.Note s) (first_item (pool.Note s) world.shared) world
+  happened_events setup world (event.App c s item) = item_events setup.topology (pool.App c s) (first_item (pool.App c s) world.shared) world
+  happened_events setup world (event.Admin c item) = item_events setup.topology (pool.Admin c) (first_item (pool.Admin c) world.shared) world
+  happened_events setup world (event.Recv h item) = item_events setup.topology (pool.Recv h) (first_item (pool.Recv h) world.shared) world
 
--- what is wrong with the entry that a walk has come to is wrong with the trace
-pub wrong_here : (setup : Setup) (trace : Trace) (at : ℕ) (entry : Entry) (world : Situation) (numbers : Numbers) (no : LogNo) → slice_get trace.entries at ≡ Some entry → Follows setup trace.entries at world numbers
-    → IsWrongIn setup world (number_of numbers entry.worker) at entry no → IsWrong setup trace no
-wrong_here setup trace at entry world numbers (NotLegal place) here known h =
-    subst (λ n. IsNotLegalAt setup trace.entries n) (sym h.0) (entry, here, known.sound, λ legal. h.1 (legal_in setup trace.entries at entry world known.comes_to legal))
-wrong_here setup trace at entry world numbers (WorkerOrder place want has) here known h =
-    subst (λ n. IsOutOfOrderAt setup trace.entries n want has) (sym h.0)
-    (entry, here, known.sound, legal_here setup trace.entries at entry world known.comes_to h.1, h.2 ∙ known.counted entry.worker, h.3, λ e. h.4 (sym h.2 ∙ e ∙ h.3))
-wrong_here setup trace at entry world numbers EndWrong here known h = absurd h
-wrong_here setup trace at entry world numbers OutOfMemory here known h = tt
+  -- each event counts for one
+  next_events : (setup : Setup C) (world : Situation C) (event : Event) → (next react setup world event).shared.events ≡ world.shared.events + 1
+  next_events setup world event = ap (λ (n : ℕ). n + 1) (happened_events setup world event)
 
--- the end that a walk comes to is the trace's
-pub end_here : (setup : Setup) (trace : Trace) (events : ℕ) (world : Situation) (numbers : Numbers) → Follows setup trace.entries (length trace.entries) world numbers → events ≡ length trace.entries
-    → EndsAs setup world events trace.end ≡ EndsAs setup (world_after setup trace) (length trace.entries) trace.end
-end_here setup trace events world numbers known e = ap (λ (w : Situation). EndsAs setup w events trace.end) known.comes_to ∙ ap (λ n. EndsAs setup (world_after setup trace) n trace.end) e
+  module _ (first : C → C) where
+    -- ---- one more entry
+
+    pub world_more : (setup : Setup C) (entries : List Entry) (at : ℕ) (entry : Entry) → slice_get entries at ≡ Some entry
+        → world_before react first setup entries (at + 1) ≡ next react setup (world_before react first setup entries at) entry.event
+    world_more setup entries at entry e =
+        ap (λ (front : List Entry). fold (next react setup) (start first setup) (map (λ entry. entry.event) front)) (front_more entries at entry e)
+        ∙ ap (λ (events : List Event). fold (next react setup) (start first setup) events) (map-append (λ (entry : Entry). entry.event) (take at entries) (entry ∷ []))
+        ∙ fold-append (next react setup) (start first setup) (map (λ (entry : Entry). entry.event) (take at entries)) (entry.event ∷ [])
+
+    pub sound_none : (setup : Setup C) (entries : List Entry) → IsSoundTo react first setup entries 0
+    sound_none setup entries = λ at entry lt. absurd (omega arith)
+
+    sound_more : (setup : Setup C) (entries : List Entry) (place : ℕ) (entry : Entry) → slice_get entries place ≡ Some entry → IsSoundTo react first setup entries place
+        → IsLegalIn setup (world_before react first setup entries place) place entry → IsNextOfWorker entries place entry → IsSoundTo react first setup entries (place + 1)
+    sound_more setup entries place entry here sound legal number = λ at other lt there. elim (cases_lt at place) [
+      | inl before ↦ sound at other before there
+      | inr after ↦
+          let same : at ≡ place = omega arith in
+          let equal : entry ≡ other = same_Some entry other (sym here ∙ ap (λ n. slice_get entries n) (sym same) ∙ there) in
+          subst (λ (n : ℕ). IsLegalIn setup (world_before react first setup entries n) n other × IsNextOfWorker entries n other) (sym same)
+          (subst (λ (x : Entry). IsLegalIn setup (world_before react first setup entries place) place x × IsNextOfWorker entries place x) equal (legal, number))
+    ]
+
+    -- ---- a walk along a history
+
+    -- what is known before the entry at a place: the world and the numbers that the earlier entries lead to, and that these are sound
+    pub record Follows (policies : C → ℕ) (setup : Setup C) (entries : List Entry) (at : ℕ) (world : Situation C) (numbers : Numbers) : Type 0 where
+      pub comes_to : world ≡ world_before react first setup entries at
+      pub fits : Fits policies setup world
+      pub events : world.shared.events ≡ at
+      pub counted : (worker : ℕ) → number_of numbers worker ≡ earlier_of entries at worker
+      pub sound : IsSoundTo react first setup entries at
+
+    -- the walk goes on by an entry that is sound
+    pub follows_more : (policies : C → ℕ) (setup : Setup C) (entries : List Entry) (at : ℕ) (entry : Entry) (world after : Situation C) (numbers later : Numbers) → slice_get entries at ≡ Some entry
+        → Follows policies setup entries at world numbers → IsLegalIn setup world at entry → entry.number ≡ number_of numbers entry.worker → after ≡ next react setup world entry.event
+        → CountsEntry numbers later entry.worker → Fits policies setup after → Follows policies setup entries (at + 1) after later
+    follows_more policies setup entries at entry world after numbers later here known legal number e counts fits = record {
+      comes_to = e ∙ ap (λ (w : Situation C). next react setup w entry.event) known.comes_to ∙ sym (world_more setup entries at entry here);
+      fits = fits;
+      events = ap (λ (w : Situation C). w.shared.events) e ∙ next_events setup world entry.event ∙ ap (λ n. n + 1) known.events;
+      counted = λ worker. counts worker ∙ ap (λ n. n + (if entry.worker == worker then 1 else 0)) (known.counted worker) ∙ sym (earlier_more entries at entry worker here);
+      sound = sound_more setup entries at entry here known.sound (subst (λ (w : Situation C). IsLegalIn setup w at entry) known.comes_to legal) (number ∙ known.counted entry.worker);
+    }
+
+    -- the walk has come to the end
+    pub follows_all : (policies : C → ℕ) (setup : Setup C) (entries : List Entry) (at : ℕ) (world : Situation C) (numbers : Numbers) → length entries ≡ at → Follows policies setup entries at world numbers
+        → Follows policies setup entries (length entries) world numbers
+    follows_all policies setup entries at world numbers e known = subst (λ n. Follows policies setup entries n world numbers) (sym e) known
+
+    -- an entry that has something wrong is the first, as the earlier ones are sound
+    first_wrong : (policies : C → ℕ) (setup : Setup C) (entries : List Entry) (at : ℕ) (entry : Entry) (world : Situation C) (numbers : Numbers) (why : LogNo) → slice_get entries at ≡ Some entry
+        → Follows policies setup entries at world numbers → IsWrongEntry setup world (number_of numbers entry.worker) at entry why → IsFirstWrong react first setup entries at entry why
+    first_wrong policies setup entries at entry world numbers why here known wrong = record {
+      here = here;
+      before = known.sound;
+      wrong = subst (λ (n : ℕ). IsWrongEntry setup (world_before react first setup entries at) n at entry why) (known.counted entry.worker)
+          (subst (λ (w : Situation C). IsWrongEntry setup w (number_of numbers entry.worker) at entry why) known.comes_to wrong);
+    }
+
+    -- what is wrong with the entry that a walk has come to is wrong with the trace
+    pub wrong_here : (policies : C → ℕ) (setup : Setup C) (trace : Trace) (at : ℕ) (entry : Entry) (world : Situation C) (numbers : Numbers) (no : LogNo) → slice_get trace.entries at ≡ Some entry
+        → Follows policies setup trace.entries at world numbers → IsWrongEntry setup world (number_of numbers entry.worker) at entry no → IsWrong react first setup trace no
+    wrong_here policies setup trace at entry world numbers (NotLegal place) here known wrong = (at, entry, first_wrong policies setup trace.entries at entry world numbers (NotLegal place) here known wrong)
+    wrong_here policies setup trace at entry world numbers (WorkerOrder place want has) here known wrong =
+        (at, entry, first_wrong policies setup trace.entries at entry world numbers (WorkerOrder place want has) here known wrong)
+    wrong_here policies setup trace at entry world numbers EndWrong here known wrong = absurd wrong
+    wrong_here policies setup trace at entry world numbers OutOfMemory here known wrong = tt
+
+    -- the end that a walk comes to is the trace's
+    pub end_here : (policies : C → ℕ) (setup : Setup C) (trace : Trace) (events : ℕ) (world : Situation C) (numbers : Numbers) → Follows policies setup trace.entries (length trace.entries) world numbers
+        → events ≡ length trace.entries → EndsAs setup world events trace.end ≡ EndsAs setup (world_after react first setup trace) (length trace.entries) trace.end
+    end_here policies setup trace events world numbers known e =
+        ap (λ (w : Situation C). EndsAs setup w events trace.end) known.comes_to ∙ ap (λ n. EndsAs setup (world_after react first setup trace) n trace.end) e

@@ -1,5 +1,3 @@
-pub mod Fitting
 pub mod Histories
-pub mod Ports
-pub mod Waiting
-pub mod Wired
+pub mod OneStep
+pub mod OwnEntries

@@ -1,43 +1,33 @@
 -- Which histories are legal, and what is wrong with the others.
-use Rattle.std.specs.Prelude.{◌≡◌, ◌≢◌, ℕ, ◌<◌, ◌==◌, List, length, map, take, slice_get, count_by, Option, Some, None, IsTrue, ⊤}
+use Rattle.std.specs.Prelude.{◌≡◌, ◌≢◌, ℕ, ◌<◌, ◌==◌, List, length, map, take, slice_get, count_by, Option, Some, None, ⊤}
+use Rattle.controller_api.specs.Reaction.{Reaction}
+use Rattle.controller_api.specs.declared.item.UpItem.{UpItem}
+use Rattle.machine_setup.specs.declared.setup.Setup.{Setup}
 use Rattle.message_pools.specs.declared.item.Item.{Item}
-use Rattle.event_machine.specs.declared.event.Event.{Event}
-use Rattle.event_machine.specs.declared.event.Event.TheVariants.{In, Pkt}
-use Rattle.event_machine.specs.declared.script.Line.{Line}
-use Rattle.event_machine.specs.declared.setup.Setup.{Setup}
+use Rattle.pool_book.specs.Pools.{IsQuiet}
+use Rattle.event_world.specs.Answers.{next_line}
+use Rattle.event_world.specs.Events.{number_of}
+use Rattle.event_world.specs.Mail.{Shared}
+use Rattle.event_world.specs.World.{Situation, after_all, head_for}
+use Rattle.event_world.specs.declared.event.Event.{Event}
+use Rattle.event_world.specs.declared.event.Event.TheVariants.{In}
+use Rattle.event_machine.specs.declared.legal.LogNo.{LogNo}
+use Rattle.event_machine.specs.declared.legal.LogNo.TheVariants.{NotLegal, WorkerOrder, EndWrong, OutOfMemory}
 use Rattle.event_machine.specs.declared.trace.End.{End}
 use Rattle.event_machine.specs.declared.trace.End.TheVariants.{Quiet, Full}
 use Rattle.event_machine.specs.declared.trace.Entry.{Entry}
 use Rattle.event_machine.specs.declared.trace.Trace.{Trace}
-use Rattle.event_machine.specs.declared.legal.LogNo.{LogNo}
-use Rattle.event_machine.specs.declared.legal.LogNo.TheVariants.{NotLegal, WorkerOrder, EndWrong, OutOfMemory}
-use Rattle.event_machine.specs.Pools.{IsQuiet}
-use Rattle.event_machine.specs.World.{Situation, after_all, head_for}
 
--- the world before the entry at a place: that after the events of all earlier entries
-abbrev pub world_before : Setup → List Entry → ℕ → Situation
-world_before setup entries at = after_all setup (map (λ entry. entry.event) (take at entries))
+-- ---- one entry
 
--- a marked line waits until all pools are empty
-abbrev pub MayStart : Situation → Option Line → Type 0
-MayStart world None = ⊤
-MayStart world (Some line) = IsTrue line.after_quiet → IsQuiet world.packets
+-- the item is the first one of the pool that the event takes from, and has the number that the event names
+abbrev pub IsHead : Shared → Event → Option Item → Type 0
+IsHead shared event item = (first : Item) × (item ≡ Some first) × (head_for shared event ≡ Some (number_of event, first))
 
--- the item is the first one of the pool that the event takes from, and has the number
-abbrev pub IsHead : Situation → Event → ℕ → Option Item → Type 0
-IsHead world event number item = (first : Item) × (item ≡ Some first) × (head_for world event ≡ Some (number, first))
-
--- What an entry needs by its event. An input is the next line of the script, and has no item. An internal event has the
--- item that its pool's first one is.
-abbrev pub IsLegalEvent : Setup → Situation → Event → Option Item → Type 0
-IsLegalEvent setup world (In position) item =
-    (position < length setup.script) × (position ≡ world.inputs) × (item ≡ None) × MayStart world (slice_get setup.script position)
-IsLegalEvent setup world (Pkt s p number) item = IsHead world (Pkt s p number) number item
-
--- the entry may stand at its place
-pub record IsLegal (setup : Setup) (entries : List Entry) (at : ℕ) (entry : Entry) : Type 0 where
-  pub room : at < setup.limits.max_events
-  pub event : IsLegalEvent setup (world_before setup entries at) entry.event entry.item
+-- an internal event takes the first item of its pool; an input takes none
+abbrev pub TakesHead : Shared → Event → Option Item → Type 0
+TakesHead shared (In position) item = ⊤
+TakesHead shared internal item = IsHead shared internal item
 
 -- how many entries before the place name the worker
 abbrev pub earlier_of : List Entry → ℕ → ℕ → ℕ
@@ -47,57 +37,79 @@ earlier_of entries at worker = count_by (λ entry. entry.worker == worker) (take
 abbrev pub IsNextOfWorker : List Entry → ℕ → Entry → Type 0
 IsNextOfWorker entries at entry = entry.number ≡ earlier_of entries at entry.worker
 
--- each entry before the place is legal, and its worker's next
-abbrev pub IsSoundTo : Setup → List Entry → ℕ → Type 0
-IsSoundTo setup entries place = (at : ℕ) (entry : Entry) → at < place → slice_get entries at ≡ Some entry
-    → IsLegal setup entries at entry × IsNextOfWorker entries at entry
+module _ {C : Type 0} where
+  -- What an entry needs by its event. An input is the script's next line, which has not to wait, and has no item. An internal
+  -- event has the first item of its pool.
+  abbrev pub IsLegalEvent : Setup C → Situation C → Event → Option Item → Type 0
+  IsLegalEvent setup world (In position) item = (next_line setup.script world.shared ≡ Some (In position)) × (item ≡ None)
+  IsLegalEvent setup world internal item = IsHead world.shared internal item
 
--- the script is used up, and nothing waits
-abbrev pub IsDone : Setup → Situation → Type 0
-IsDone setup world = (world.inputs ≡ length setup.script) × IsQuiet world.packets
+  -- the entry may stand at the place, in the world to which the earlier ones lead
+  abbrev pub IsLegalIn : Setup C → Situation C → ℕ → Entry → Type 0
+  IsLegalIn setup world at entry = (at < setup.limits.max_events) × IsLegalEvent setup world entry.event entry.item
 
--- The run is complete, and this is its end: quiet where all is done, or else full where it has as many events as it may.
-abbrev pub EndsAs : Setup → Situation → ℕ → End → Type 0
-EndsAs setup world events Quiet = IsDone setup world
-EndsAs setup world events Full = (events ≡ setup.limits.max_events) × ¬ IsDone setup world
+  -- What is wrong with the entry at a place, in the world to which the earlier ones lead, where its worker's next number is the
+  -- one wanted: it is not legal, or else it has another number.
+  abbrev pub IsWrongEntry : Setup C → Situation C → ℕ → ℕ → Entry → LogNo → Type 0
+  IsWrongEntry setup world want at entry (NotLegal place) = (place ≡ at) × ¬ IsLegalIn setup world at entry
+  IsWrongEntry setup world want at entry (WorkerOrder place next has) =
+      (place ≡ at) × IsLegalIn setup world at entry × (next ≡ want) × (has ≡ entry.number) × (next ≢ has)
+  IsWrongEntry setup world want at entry EndWrong = ⊥
+  IsWrongEntry setup world want at entry OutOfMemory = ⊤
 
--- the world after the whole trace
-abbrev pub world_after : Setup → Trace → Situation
-world_after setup trace = world_before setup trace.entries (length trace.entries)
+  -- ---- the end
 
--- a complete run of the setup, whose entries are numbered in their workers' order
-pub record IsLegalRun (setup : Setup) (trace : Trace) : Type 0 where
-  pub entries : IsSoundTo setup trace.entries (length trace.entries)
-  pub end : EndsAs setup (world_after setup trace) (length trace.entries) trace.end
+  -- the script is used up, and nothing waits
+  abbrev pub IsDone : Setup C → Situation C → Type 0
+  IsDone setup world = (world.shared.inputs ≡ length setup.script) × IsQuiet world.shared.pools
 
--- the entry at the place is the first that is not sound, and it is not legal
-abbrev pub IsNotLegalAt : Setup → List Entry → ℕ → Type 0
-IsNotLegalAt setup entries at = (entry : Entry) × (slice_get entries at ≡ Some entry) × IsSoundTo setup entries at
-    × ¬ IsLegal setup entries at entry
+  -- The run is complete, and this is its end: quiet where all is done, or else full where it has as many events as it may.
+  abbrev pub EndsAs : Setup C → Situation C → ℕ → End → Type 0
+  EndsAs setup world events Quiet = IsDone setup world
+  EndsAs setup world events Full = (events ≡ setup.limits.max_events) × ¬ IsDone setup world
 
--- the entry at the place is the first that is not sound: it is legal, and its number is not the one wanted
-abbrev pub IsOutOfOrderAt : Setup → List Entry → ℕ → ℕ → ℕ → Type 0
-IsOutOfOrderAt setup entries at want has = (entry : Entry) × (slice_get entries at ≡ Some entry) × IsSoundTo setup entries at
-    × IsLegal setup entries at entry × (want ≡ earlier_of entries at entry.worker) × (has ≡ entry.number) × (want ≢ has)
+  -- ---- the whole history, by the meanings of the controllers
 
--- what is wrong with a trace; want of memory says nothing of it
-abbrev pub IsWrong : Setup → Trace → LogNo → Type 0
-IsWrong setup trace (NotLegal at) = IsNotLegalAt setup trace.entries at
-IsWrong setup trace (WorkerOrder at want has) = IsOutOfOrderAt setup trace.entries at want has
-IsWrong setup trace EndWrong = IsSoundTo setup trace.entries (length trace.entries)
-    × ¬ EndsAs setup (world_after setup trace) (length trace.entries) trace.end
-IsWrong setup trace OutOfMemory = ⊤
+  module _ (react : C → UpItem → Reaction C) (first : C → C) where
+    -- the world before the entry at a place: that after the events of all earlier entries
+    abbrev pub world_before : Setup C → List Entry → ℕ → Situation C
+    world_before setup entries at = after_all react first setup (map (λ entry. entry.event) (take at entries))
 
--- ---- one entry, by the world that it comes to
+    -- the entry may stand at its place
+    abbrev pub IsLegal : Setup C → List Entry → ℕ → Entry → Type 0
+    IsLegal setup entries at entry = IsLegalIn setup (world_before setup entries at) at entry
 
--- the entry may stand at its place, where the earlier ones lead to the world
-abbrev pub IsLegalIn : Setup → Situation → ℕ → Entry → Type 0
-IsLegalIn setup world at entry = (at < setup.limits.max_events) × IsLegalEvent setup world entry.event entry.item
+    -- every internal event takes the first item of its pool, as in a legal run, and in any other history of events that can happen
+    abbrev pub TakeHeads : Setup C → List Entry → Type 0
+    TakeHeads setup entries = (at : ℕ) (entry : Entry) → slice_get entries at ≡ Some entry
+        → TakesHead (world_before setup entries at).shared entry.event entry.item
 
--- what is wrong with the entry at a place, where the earlier ones lead to the world, and the worker's next number is the one wanted
-abbrev pub IsWrongIn : Setup → Situation → ℕ → ℕ → Entry → LogNo → Type 0
-IsWrongIn setup world want at entry (NotLegal place) = (place ≡ at) × ¬ IsLegalIn setup world at entry
-IsWrongIn setup world want at entry (WorkerOrder place next has) =
-    (place ≡ at) × IsLegalIn setup world at entry × (next ≡ want) × (has ≡ entry.number) × (want ≢ entry.number)
-IsWrongIn setup world want at entry EndWrong = ⊥
-IsWrongIn setup world want at entry OutOfMemory = ⊤
+    -- each entry before the place is legal, and its worker's next
+    abbrev pub IsSoundTo : Setup C → List Entry → ℕ → Type 0
+    IsSoundTo setup entries place = (at : ℕ) (entry : Entry) → at < place → slice_get entries at ≡ Some entry
+        → IsLegal setup entries at entry × IsNextOfWorker entries at entry
+
+    -- the world after the whole trace
+    abbrev pub world_after : Setup C → Trace → Situation C
+    world_after setup trace = world_before setup trace.entries (length trace.entries)
+
+    -- the run is complete, and ends as the trace says
+    abbrev pub IsEndRight : Setup C → Trace → Type 0
+    IsEndRight setup trace = EndsAs setup (world_after setup trace) (length trace.entries) trace.end
+
+    -- a complete run of the setup, whose entries are numbered in their workers' order
+    pub record IsLegalRun (setup : Setup C) (trace : Trace) : Type 0 where
+      pub entries : IsSoundTo setup trace.entries (length trace.entries)
+      pub end : IsEndRight setup trace
+
+    -- the first entry that is not sound stands at the place, and this is wrong with it
+    pub record IsFirstWrong (setup : Setup C) (entries : List Entry) (at : ℕ) (entry : Entry) (no : LogNo) : Type 0 where
+      pub here : slice_get entries at ≡ Some entry
+      pub before : IsSoundTo setup entries at
+      pub wrong : IsWrongEntry setup (world_before setup entries at) (earlier_of entries at entry.worker) at entry no
+
+    -- what is wrong with a trace: its end, or its first entry that is not sound; want of memory says nothing of it
+    abbrev pub IsWrong : Setup C → Trace → LogNo → Type 0
+    IsWrong setup trace EndWrong = IsSoundTo setup trace.entries (length trace.entries) × ¬ IsEndRight setup trace
+    IsWrong setup trace OutOfMemory = ⊤
+    IsWrong setup trace why = (at : ℕ) × (entry : Entry) × IsFirstWrong setup trace.entries at entry why

@@ -1,23 +1,17 @@
-//! The machine: a scenario's setup, the world that it comes to, the events that change it, and which
-//! histories of events are legal.
+//! The machine: the world that a scenario's setup comes to by events, and which histories of events are legal runs of it.
 #![tactic(auto)]
 
-mod event;
+pub mod laws;
 mod legal;
 mod numbers;
-mod port_pools;
-mod script;
-mod setup;
 mod trace;
-mod valid;
-mod world;
 
-pub use event::Event;
+pub use event_world::{Actor, Event, NetState, PoolName, StepNo, Tables, World};
 pub use legal::{LogNo, check_legal};
-pub use script::{Input, Line, Script};
-pub use setup::{Limits, Setup};
+pub use machine_setup::{
+    Controllers, Input, Limits, Line, Preset, Presets, Script, Setup, SwitchPresets,
+};
 pub use trace::{End, Entries, Entry, Trace};
-pub use world::{StepNo, World};
 
 #[cfg(test)]
 mod tests;

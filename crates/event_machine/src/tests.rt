@@ -1,290 +1,335 @@
-//! One switch, two hosts, and packets that nothing takes any further.
-ghost use Rattle.std.specs.Prelude.{◌≡◌, IfOk};
-ghost use Rattle.event_machine.specs.Setup.{IsValidSetup};
-ghost use Rattle.event_machine.specs.World.{Fits};
+//! Two switches without controllers. The entry for the first packet has run out when it comes; the second packet goes on to
+//! the other switch, and is lost there.
+ghost use Rattle.std.specs.Prelude.{[], IfOk};
+ghost use Rattle.controller_api.specs.Reaction.{Reaction};
+ghost use Rattle.machine_setup.specs.Setup.{IsValidSetup};
+ghost use Rattle.event_world.specs.Fits.{Fits};
 
 use super::{
-    End, Entry, Event, Input, Limits, Line, LogNo, Script, Setup, StepNo, Trace, World, check_legal,
+    Actor, Controllers, End, Entries, Entry, Event, Input, Limits, Line, LogNo, Preset, Script,
+    Setup, StepNo, SwitchPresets, Trace, World, check_legal,
 };
+use controller_api::{Controller, Outbox, UpItem};
 use listed::Listed;
 use message_pools::Item;
-use of10_match::{Header, Packet};
+use of10_match::{Header, Match, Packet};
+use of10_messages::{Action, Notice, one_action};
 use std::alloc::{AllocError, Global};
 use std::test::Fail;
 use topology::Topology;
 
-// A web request from the first host to the second one.
-const PACKET: Packet = Packet {
-    header: Header {
-        dl_src: 1,
-        dl_dst: 2,
-        dl_vlan: 65535,
-        dl_vlan_pcp: 0,
-        dl_type: 2048,
-        nw_tos: 0,
-        nw_proto: 6,
-        nw_src: 10,
-        nw_dst: 20,
-        tp_src: 1000,
-        tp_dst: 80,
-    },
-    tag: 7,
-};
+// A controller that does nothing. The setups have none.
+#[derive(Debug, Drop)]
+struct Idle;
 
-const SENT: Input = Input::Inject {
-    host: 0,
-    packet: PACKET,
-};
+impl Controller for Idle {
+    ghost react = { λ idle item. record { state = idle; sent = [] } };
 
-// The packet is taken by the switch, and lost.
-const LOST: Event = Event::Pkt {
-    s: 0,
-    p: 1,
-    item: 0,
-};
+    ghost start = { λ idle. idle };
 
-// One switch of two ports, and a host at each of them.
+    ghost policies = { λ idle. 0 };
+
+    fn fresh(&self) -> Result<Idle, AllocError> {
+        Ok(Idle)
+    }
+
+    fn handle(&mut self, _item: &UpItem, _out: &mut Outbox) -> Result<(), AllocError> {
+        Ok(())
+    }
+
+    fn copy(&self) -> Result<Idle, AllocError> {
+        Ok(Idle)
+    }
+}
+
+// A packet to an address, and with the tag one below it.
+fn packet_to(address: u8) -> Packet {
+    Packet {
+        header: Header {
+            dl_src: 0,
+            dl_dst: u64::from(address),
+            dl_vlan: 0,
+            dl_vlan_pcp: 0,
+            dl_type: 0,
+            nw_tos: 0,
+            nw_proto: 0,
+            nw_src: 0,
+            nw_dst: 0,
+            tp_src: 0,
+            tp_dst: 0,
+        },
+        tag: u32::from(address.saturating_sub(1)),
+    }
+}
+
+// ---- the setup
+
 fn network(alloc: Global) -> Result<Topology, AllocError> {
     Ok(Topology {
-        ports: Listed::of(vec![in alloc; 2u16]?),
-        owner: Listed::of(vec![in alloc; None]?),
-        links: Listed::new(alloc),
-        hosts: Listed::of(vec![in alloc; (0u16, 1u16, 1u64), (0, 2, 2)]?),
+        ports: Listed::of(vec![in alloc; 2u16, 2]?),
+        owner: Listed::of(vec![in alloc; None, None]?),
+        links: Listed::of(vec![in alloc; (0u16, 2u16, 1u16, 1u16)]?),
+        hosts: Listed::of(vec![in alloc; (0u16, 1u16, 1u64)]?),
     })
 }
 
-// A script that sends the packet once for each mark.
-fn sent_for_each(alloc: Global, marks: &[bool]) -> Result<Script, AllocError> {
+// The entry that sends packets to an address out of port 2, and goes after some seconds.
+fn preset_for(alloc: Global, address: u64, hard: u16) -> Result<Preset, AllocError> {
+    Ok(Preset {
+        matches: Match {
+            dl_dst: Some(address),
+            ..Match::any()
+        },
+        priority: 1,
+        actions: one_action(alloc, Action::output(2))?,
+        idle: 0,
+        hard,
+        flags: 0,
+        cookie: 0,
+    })
+}
+
+fn presets(alloc: Global) -> Result<Listed<SwitchPresets>, AllocError> {
+    let mut first = Listed::new(alloc);
+    first.push(preset_for(alloc, 2, 5)?)?;
+    first.push(preset_for(alloc, 3, 0)?)?;
+    let mut presets = Listed::new(alloc);
+    presets.push(first)?;
+    presets.push(Listed::new(alloc))?;
+    Ok(presets)
+}
+
+// Five seconds pass, and the host sends both packets; the last line may have to wait.
+fn script(alloc: Global, marked: bool) -> Result<Script, AllocError> {
     let mut script = Listed::new(alloc);
-    for mark in marks {
-        script.push(Line {
-            after_quiet: *mark,
-            input: SENT,
-        })?;
+    for (after_quiet, input) in [
+        (false, Input::Seconds(5)),
+        (
+            false,
+            Input::Inject {
+                host: 0,
+                packet: packet_to(2),
+            },
+        ),
+        (
+            marked,
+            Input::Inject {
+                host: 0,
+                packet: packet_to(3),
+            },
+        ),
+    ] {
+        script.push(Line { after_quiet, input })?;
     }
     Ok(script)
 }
 
-// The network with a script that sends the packet once for each mark.
-fn one_switch(alloc: Global, max_events: u32, marks: &[bool]) -> Result<Setup, AllocError> {
+fn setup(alloc: Global, max_events: u32, marked: bool) -> Result<Setup<Idle>, AllocError> {
+    let controllers: Controllers<Idle> = Listed::new(alloc);
     Ok(Setup {
         topology: network(alloc)?,
-        script: sent_for_each(alloc, marks)?,
+        presets: presets(alloc)?,
+        controllers,
+        script: script(alloc, marked)?,
         limits: Limits {
             max_events,
-            budget: 0,
+            budget: 1,
             workers: 1,
             patience: 0,
         },
     })
 }
 
-// The world after the first packet was sent.
-fn after_one(alloc: Global, setup: &Setup) -> Result<World, StepNo>
-    requires { IsValidSetup setup.now }
-    ensures fits { IfOk result (λ world. Fits setup.now world) }
-    ensures counts { IfOk result (λ world. (world.events ≡ 1) × (world.inputs ≡ 1)) }
-{
-    let mut world = World::start(alloc, setup)?;
-    world.step(setup, &Event::In(0))?;
-    Ok(world)
+// ---- histories
+
+// What an entry of the histories takes.
+#[derive(Clone, Copy, Debug)]
+enum Took {
+    Nothing,
+    Tick,
+    PacketTo(u8),
 }
 
-#[test]
-fn a_packet_is_lost(rt: HostRuntime) -> Result<(), Fail> {
-    let setup = one_switch(rt.alloc(), 100, &[false])?;
-    assert!(rt; setup.is_valid(rt.alloc())?);
-    let mut world = after_one(rt.alloc(), &setup)?;
-    assert!(rt; !world.quiet());
-    assert_eq!(rt; world.enabled_first(), Some(LOST));
-    world.step(&setup, &LOST)?;
-    assert!(rt; world.quiet());
-    assert_eq!(rt; world.enabled_first(), None);
-    let again = world.step(&setup, &LOST);
-    assert_eq!(rt; again, Err(StepNo::NotEnabled { head: None }));
-    Ok(())
-}
-
-#[test]
-fn refusals_name_the_head(rt: HostRuntime) -> Result<(), Fail> {
-    let setup = one_switch(rt.alloc(), 100, &[false])?;
-    assert!(rt; setup.is_valid(rt.alloc())?);
-    for (event, head) in [
-        (Event::In(1), None),
-        (
-            Event::Pkt {
-                s: 0,
-                p: 1,
-                item: 1,
-            },
-            Some(0),
-        ),
-        (
-            Event::Pkt {
-                s: 0,
-                p: 2,
-                item: 0,
-            },
-            None,
-        ),
-        (
-            Event::Pkt {
-                s: 0,
-                p: 0,
-                item: 0,
-            },
-            None,
-        ),
-        (
-            Event::Pkt {
-                s: 0,
-                p: 3,
-                item: 0,
-            },
-            None,
-        ),
-        (
-            Event::Pkt {
-                s: 1,
-                p: 1,
-                item: 0,
-            },
-            None,
-        ),
-    ] {
-        let refused = after_one(rt.alloc(), &setup)?.step(&setup, &event);
-        assert_eq!(rt; refused, Err(StepNo::NotEnabled { head }), "at {event:?}");
+impl Took {
+    fn item(self) -> Option<Item> {
+        match self {
+            Took::Nothing => None,
+            Took::Tick => Some(Item::Notice(Notice::Tick(5))),
+            Took::PacketTo(address) => Some(Item::Packet(packet_to(address))),
+        }
     }
-    Ok(())
 }
 
-// One entry: worker, number, event, and the tag of the packet that it took.
-type Row = (u32, u64, Event, Option<u32>);
+// The worker and its number, the event, and what it takes.
+type Row = (u32, u64, Event, Took);
 
-fn trace_of(alloc: Global, rows: &[Row], end: End) -> Result<Trace, AllocError> {
+fn pkt(s: u16, item: u64) -> Event {
+    Event::Pkt { s, p: 1, item }
+}
+
+// The run of one thread.
+fn run() -> [Row; 8] {
+    [
+        (0, 0, Event::In(0), Took::Nothing),
+        (0, 1, Event::Note { s: 0, item: 0 }, Took::Tick),
+        (0, 2, Event::Note { s: 1, item: 0 }, Took::Tick),
+        (0, 3, Event::In(1), Took::Nothing),
+        (0, 4, pkt(0, 0), Took::PacketTo(2)),
+        (0, 5, Event::In(2), Took::Nothing),
+        (0, 6, pkt(0, 1), Took::PacketTo(3)),
+        (0, 7, pkt(1, 0), Took::PacketTo(3)),
+    ]
+}
+
+fn entries(alloc: Global, rows: &[Row]) -> Result<Entries, AllocError> {
     let mut entries = Listed::new(alloc);
-    for (worker, number, event, tag) in rows {
-        let item = match *tag {
-            Some(tag) => Some(Item::Packet(Packet { tag, ..PACKET })),
-            None => None,
-        };
+    for (worker, number, event, took) in rows {
         entries.push(Entry {
             worker: *worker,
             number: *number,
             event: *event,
-            item,
+            item: took.item(),
         })?;
     }
-    Ok(Trace { entries, end })
+    Ok(entries)
 }
 
-// What is wrong with a history of the setup.
+// What is wrong with a history of the setup, if something is.
 fn wrong_with(
     alloc: Global,
-    setup: &Setup,
+    setup: &Setup<Idle>,
     rows: &[Row],
     end: End,
-) -> Result<Option<LogNo>, AllocError>
-    requires { IsValidSetup setup.now }
-{
-    let trace = trace_of(alloc, rows, end)?;
-    match check_legal(alloc, setup, &trace) {
+) -> Result<Option<LogNo>, AllocError> {
+    if !setup.is_valid(alloc)? {
+        return Err(AllocError);
+    }
+    let entries = entries(alloc, rows)?;
+    match check_legal(alloc, setup, &Trace { entries, end }) {
         Ok(_) => Ok(None),
+        Err(LogNo::OutOfMemory) => Err(AllocError),
         Err(no) => Ok(Some(no)),
     }
 }
 
-const SEND: Row = (0, 0, Event::In(0), None);
-
-const TAKE: Row = (0, 1, LOST, Some(7));
-
-const SEND_AGAIN: Row = (0, 1, Event::In(1), None);
-
-fn second(s: u16, p: u16) -> Event {
-    Event::Pkt { s, p, item: 1 }
-}
-
 #[test]
-fn histories_of_one_packet(rt: HostRuntime) -> Result<(), Fail> {
-    let setup = one_switch(rt.alloc(), 100, &[false])?;
-    assert!(rt; setup.is_valid(rt.alloc())?);
-    for (rows, end, want) in [
-        ([SEND, TAKE], End::Quiet, None),
-        ([SEND, TAKE], End::Full, Some(LogNo::EndWrong)),
-        (
-            [SEND, (0, 2, LOST, Some(7))],
-            End::Quiet,
-            Some(LogNo::WorkerOrder {
-                at: 1,
-                want: 1,
-                has: 2,
-            }),
-        ),
-        ([SEND, (5, 0, LOST, Some(7))], End::Quiet, None),
-        (
-            [(3, 1, Event::In(0), None), TAKE],
-            End::Quiet,
-            Some(LogNo::WorkerOrder {
-                at: 0,
-                want: 0,
-                has: 1,
-            }),
-        ),
-        (
-            [SEND, (0, 2, second(0, 1), Some(7))],
-            End::Quiet,
-            Some(LogNo::NotLegal { at: 1 }),
-        ),
-        (
-            [SEND, (0, 1, LOST, Some(8))],
-            End::Quiet,
-            Some(LogNo::NotLegal { at: 1 }),
-        ),
-        (
-            [SEND, (0, 1, LOST, None)],
-            End::Quiet,
-            Some(LogNo::NotLegal { at: 1 }),
-        ),
-        (
-            [(0, 0, Event::In(0), Some(7)), TAKE],
-            End::Quiet,
-            Some(LogNo::NotLegal { at: 0 }),
-        ),
-        ([TAKE, SEND], End::Quiet, Some(LogNo::NotLegal { at: 0 })),
-        ([SEND, SEND], End::Quiet, Some(LogNo::NotLegal { at: 1 })),
+fn runs_and_their_ends(rt: HostRuntime) -> Result<(), Fail> {
+    for (len, max_events, marked, end, no) in [
+        (8, 100, false, End::Quiet, None),
+        (8, 8, true, End::Quiet, None),
+        (2, 2, true, End::Full, None),
+        (7, 7, false, End::Full, None),
+        (8, 7, false, End::Full, Some(LogNo::NotLegal { at: 7 })),
+        (7, 100, false, End::Quiet, Some(LogNo::EndWrong)),
+        (7, 100, false, End::Full, Some(LogNo::EndWrong)),
+        (8, 8, false, End::Full, Some(LogNo::EndWrong)),
     ] {
-        let wrong = wrong_with(rt.alloc(), &setup, rows.as_slice(), end)?;
-        assert_eq!(rt; wrong, want, "at {rows:?} {end:?}");
+        let setup = setup(rt.alloc(), max_events, marked)?;
+        let wrong = wrong_with(rt.alloc(), &setup, &run()[..len], end)?;
+        assert_eq!(rt; wrong, no, "at {len} of {max_events}");
     }
     Ok(())
 }
 
 #[test]
-fn a_full_history(rt: HostRuntime) -> Result<(), Fail> {
-    let setup = one_switch(rt.alloc(), 1, &[false, false])?;
-    assert!(rt; setup.is_valid(rt.alloc())?);
-    let full = wrong_with(rt.alloc(), &setup, &[SEND], End::Full)?;
-    assert_eq!(rt; full, None);
-    let quiet = wrong_with(rt.alloc(), &setup, &[SEND], End::Quiet)?;
-    assert_eq!(rt; quiet, Some(LogNo::EndWrong));
-    let longer = wrong_with(rt.alloc(), &setup, &[SEND, SEND_AGAIN], End::Full)?;
-    assert_eq!(rt; longer, Some(LogNo::NotLegal { at: 1 }));
+fn what_is_wrong_with_the_others(rt: HostRuntime) -> Result<(), Fail> {
+    let not_legal = |at| LogNo::NotLegal { at };
+    for (place, row, no) in [
+        (
+            1,
+            (0, 1, Event::Note { s: 0, item: 1 }, Took::Tick),
+            not_legal(1),
+        ),
+        (
+            1,
+            (0, 5, Event::Note { s: 0, item: 1 }, Took::Tick),
+            not_legal(1),
+        ),
+        (
+            2,
+            (0, 2, Event::Note { s: 7, item: 0 }, Took::Tick),
+            not_legal(2),
+        ),
+        (
+            2,
+            (0, 2, Event::Note { s: 1, item: 0 }, Took::Nothing),
+            not_legal(2),
+        ),
+        (3, (0, 3, Event::In(1), Took::Tick), not_legal(3)),
+        (3, (0, 3, Event::In(2), Took::Nothing), not_legal(3)),
+        (4, (0, 4, Event::In(2), Took::Nothing), not_legal(4)),
+        (6, (0, 6, pkt(0, 1), Took::PacketTo(2)), not_legal(6)),
+        (
+            4,
+            (1, 1, pkt(0, 0), Took::PacketTo(2)),
+            LogNo::WorkerOrder {
+                at: 4,
+                want: 0,
+                has: 1,
+            },
+        ),
+        (
+            5,
+            (0, 6, Event::In(2), Took::Nothing),
+            LogNo::WorkerOrder {
+                at: 5,
+                want: 5,
+                has: 6,
+            },
+        ),
+    ] {
+        let setup = setup(rt.alloc(), 8, true)?;
+        let mut rows = run();
+        *rows.get_mut(place).ok_or("a place of the run")? = row;
+        let wrong = wrong_with(rt.alloc(), &setup, &rows, End::Quiet)?;
+        assert_eq!(rt; wrong, Some(no), "at {place}");
+    }
     Ok(())
 }
 
 #[test]
-fn a_marked_line_waits(rt: HostRuntime) -> Result<(), Fail> {
-    let setup = one_switch(rt.alloc(), 100, &[false, true])?;
+fn texts_of_what_is_wrong(rt: HostRuntime) -> Result<(), Fail> {
+    let order = LogNo::WorkerOrder {
+        at: 1,
+        want: 2,
+        has: 3,
+    };
+    for (no, text) in [
+        (LogNo::NotLegal { at: 7 }, "entry 7 is not legal"),
+        (order, "entry 1 has number 3, and its worker's next is 2"),
+        (LogNo::EndWrong, "the trace does not end as it says"),
+        (LogNo::OutOfMemory, "out of memory"),
+    ] {
+        assert_eq!(rt; format!(in rt.alloc(); "{no}")?.as_str(), text);
+    }
+    Ok(())
+}
+
+// ---- steps
+
+// Lets an event happen, as long as few did.
+fn step(world: &mut World<Idle>, setup: &Setup<Idle>, event: Event) -> Result<(), StepNo>
+    requires setup { IsValidSetup setup.now }
+    requires fits { Fits (λ idle. 0) setup.now world.old }
+    ensures { Fits (λ idle. 0) setup.now world.new }
+{
+    if world.events() > 1000 || world.inputs() > 1000 {
+        return Err(StepNo::OutOfMemory);
+    }
+    world.step(setup, &event)
+}
+
+#[test]
+fn a_refused_step_names_the_head(rt: HostRuntime) -> Result<(), Fail> {
+    let setup = setup(rt.alloc(), 100, false)?;
     assert!(rt; setup.is_valid(rt.alloc())?);
-    let early = wrong_with(rt.alloc(), &setup, &[SEND, SEND_AGAIN], End::Quiet)?;
-    assert_eq!(rt; early, Some(LogNo::NotLegal { at: 1 }));
-    let rows = [
-        SEND,
-        TAKE,
-        (0, 2, Event::In(1), None),
-        (0, 3, second(0, 1), Some(7)),
-    ];
-    let in_order = wrong_with(rt.alloc(), &setup, &rows, End::Quiet)?;
-    assert_eq!(rt; in_order, None);
+    let mut world = World::start(rt.alloc(), &setup)?;
+    let early = step(&mut world, &setup, pkt(0, 1));
+    assert_eq!(rt; early, Err(StepNo::NotEnabled { head: None }));
+    step(&mut world, &setup, Event::In(1))?;
+    let other = step(&mut world, &setup, pkt(0, 1));
+    assert_eq!(rt; other, Err(StepNo::NotEnabled { head: Some(0) }));
+    assert_eq!(rt; setup.topology.ports.len(), 2);
+    assert_eq!(rt; world.first_of(&setup, Actor::Switch(0)), Some(pkt(0, 0)));
     Ok(())
 }

@@ -1,5 +1,5 @@
 //! The history of a run.
-use crate::event::Event;
+use event_world::Event;
 use listed::Listed;
 use message_pools::Item;
 
@@ -23,7 +23,7 @@ pub type Entries = Listed<Entry>;
 pub enum End {
     /// The script is used up, and nothing waits.
     Quiet,
-    /// The run has as many events as it may have.
+    /// The run has as many events as it may have, and the script is not used up or something still waits.
     Full,
 }
 

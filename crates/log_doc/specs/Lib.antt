@@ -1,4 +1,5 @@
 pub mod Json
+pub mod Idle
 pub mod Log
 pub mod Scenario
 pub mod Misread

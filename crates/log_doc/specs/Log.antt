@@ -9,13 +9,12 @@ use Rattle.serde_json.specs.Read.{read}
 use Rattle.of10_match.specs.declared.packet.Packet.{Packet}
 use Rattle.of10_match.specs.Packet.{packet_of}
 use Rattle.message_pools.specs.declared.item.Item.TheVariants as item
-use Rattle.event_machine.specs.declared.event.Event.TheVariants.{In, Pkt}
-use Rattle.event_machine.specs.declared.setup.Setup.{Setup}
+use Rattle.machine_setup.specs.Setup.{IsValidSetup}
+use Rattle.event_world.specs.declared.event.Event.TheVariants.{In, Pkt}
 use Rattle.event_machine.specs.declared.trace.End.{End}
 use Rattle.event_machine.specs.declared.trace.End.TheVariants.{Quiet, Full}
 use Rattle.event_machine.specs.declared.trace.Entry.{Entry}
 use Rattle.event_machine.specs.declared.trace.Trace.{Trace}
-use Rattle.event_machine.specs.Setup.{IsValidSetup}
 use Rattle.log_doc.specs.declared.log.DocFail.{DocFail}
 use Rattle.log_doc.specs.declared.log.DocFail.TheVariants.{Refused, OutOfMemory}
 use Rattle.log_doc.specs.declared.log.Log.{Log}

@@ -4,11 +4,12 @@ use Rattle.std.specs.Option.{option_map_or}
 use Rattle.serde_json.specs.Data.{Data}
 use Rattle.serde_json.specs.Find.{get, at, as_null}
 use Rattle.of10_match.specs.declared.header.Header.{Header}
-use Rattle.event_machine.specs.declared.script.Input.TheVariants.{Inject}
-use Rattle.event_machine.specs.declared.script.Line.{Line}
-use Rattle.event_machine.specs.declared.setup.Limits.{Limits}
-use Rattle.event_machine.specs.declared.setup.Setup.{Setup}
+use Rattle.machine_setup.specs.declared.script.Input.TheVariants.{Inject}
+use Rattle.machine_setup.specs.declared.script.Line.{Line}
+use Rattle.machine_setup.specs.declared.setup.Limits.{Limits}
+use Rattle.machine_setup.specs.declared.setup.Setup.{Setup}
 use Rattle.topology.specs.declared.network.Topology.{Topology}
+use Rattle.log_doc.specs.declared.idle.Idle.{Idle}
 use Rattle.log_doc.specs.Json.{number_at, number_of, is_list_of, is_object_of, is_word_at, list_read}
 
 -- a list with no element, where the form has no more yet
@@ -87,11 +88,11 @@ limits_of value =
     (number_of value (codes "max_events") 1 16384)) (number_of value (codes "budget") 0 64)
 
 -- an object of eleven members: the limits, the network, the script, the version, and neither controllers nor invariants
-abbrev pub setup_of : Data → Option Setup
+abbrev pub setup_of : Data → Option (Setup Idle)
 setup_of value =
     if is_object_of 11 value && is_empty_list (get (codes "controllers") value) && is_empty_list (get (codes "invariants") value) then
     option_and_then (λ version. option_and_then (λ limits. option_and_then (λ topology. option_map (λ script.
-    record { topology = topology; script = script; limits = limits })
+    record { topology = topology; presets = replicate (length topology.ports) []; controllers = []; script = script; limits = limits })
     (option_and_then (list_read line_of 256) (get (codes "script") value)))
     (topology_of value)) (limits_of value)) (number_of value (codes "sts") 1 1)
     else None

@@ -2,10 +2,12 @@
 #![tactic(auto)]
 
 mod entry;
+mod idle;
 mod json;
 mod log;
 mod scenario;
 
+pub use idle::Idle;
 pub use log::{DocFail, Log, Path, Scenario, read_log};
 
 #[cfg(test)]

@@ -5,10 +5,12 @@ ghost use Rattle.log_doc.specs.Misread.{Gives};
 ghost use Rattle.log_doc.specs.Log.{log_of, IsValidLog, GivesLog, RefusesBy, IsLogText, IsRefused};
 
 use crate::entry::{EntryForm, end_of};
+use crate::idle::Idle;
 use crate::json::{Misread, is_object_of, member_list, u32_of};
 use crate::scenario::setup_of;
-use event_machine::{Entry, Setup, Trace};
+use event_machine::{Entry, Trace};
 use listed::Listed;
+use machine_setup::Setup;
 use serde_json::Value;
 use std::alloc::{AllocError, Global};
 use thiserror::Error;
@@ -29,7 +31,7 @@ pub enum DocFail {
 /// What a scenario document says.
 #[derive(Debug, Drop)]
 pub struct Scenario {
-    pub setup: Setup,
+    pub setup: Setup<Idle>,
 }
 
 /// A scenario, and the history of one run of it.

@@ -1,17 +1,18 @@
 //! The scenario in a log.
-ghost use Rattle.std.specs.Prelude.{◌≡◌, ◌-◌, ◌^◌, option_map, option_and_then, replicate, None, IfOk};
+ghost use Rattle.std.specs.Prelude.{◌≡◌, ◌-◌, ◌^◌, option_map, option_and_then, replicate, None, [], IfOk};
 ghost use Rattle.serde_json.specs.Find.{get, at};
 ghost use Rattle.serde_json.specs.View.{view};
 ghost use Rattle.log_doc.specs.Json.{number_of, list_read};
 ghost use Rattle.log_doc.specs.Misread.{Gives};
 ghost use Rattle.log_doc.specs.Scenario.{switch_of, link_of, host_of, header_of, line_of, topology_of, limits_of, setup_of, is_empty_list, is_null};
 
+use crate::idle::Idle;
 use crate::json::{
     Form, Misread, is_list_of, is_object_of, is_word_at, member_list, number_at, u8_at, u16_at,
     u32_at, u32_of,
 };
-use event_machine::{Input, Limits, Line, Setup};
 use listed::Listed;
+use machine_setup::{Input, Limits, Line, Presets, Setup};
 use of10_match::{Header, Packet};
 use serde_json::Value;
 use std::alloc::{AllocError, Global};
@@ -185,8 +186,19 @@ fn no_owners(alloc: Global, switches: usize) -> Result<Owners, AllocError>
     Ok(Listed::of(vec![in alloc; None; switches]?))
 }
 
+// No presets, for each of so many switches.
+fn no_presets(alloc: Global, switches: usize) -> Result<Presets, AllocError>
+    ensures { IfOk result (λ presets. presets ≡ replicate switches []) }
+{
+    let mut presets = Listed::new(alloc);
+    for _ in 0..switches {
+        presets.push(Listed::new(alloc))?;
+    }
+    Ok(presets)
+}
+
 /// The setup of a scenario.
-pub(crate) fn setup_of(alloc: Global, value: &Value) -> Result<Setup, Misread>
+pub(crate) fn setup_of(alloc: Global, value: &Value) -> Result<Setup<Idle>, Misread>
     ensures { Gives result (setup_of (view value.now)) }
 {
     if !is_object_of(11, value)
@@ -198,9 +210,12 @@ pub(crate) fn setup_of(alloc: Global, value: &Value) -> Result<Setup, Misread>
     u32_of(value, "sts", 1, 1).ok_or(Misread::Form)?;
     let limits = limits_of(value).ok_or(Misread::Form)?;
     let topology = topology_of(alloc, value)?;
+    let presets = no_presets(alloc, topology.ports.len())?;
     let script = member_list::<LineForm>(alloc, value, "script", 256)?;
     Ok(Setup {
         topology,
+        presets,
+        controllers: Listed::new(alloc),
         script,
         limits,
     })

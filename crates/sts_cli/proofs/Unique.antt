@@ -1,13 +1,17 @@
 -- Bytes have one answer.
-use Rattle.std.proofs.Common.{◌≡◌, ℕ, List, length, slice_get, Some, refl, sym, ◌∙◌, ap, subst, inl, inr}
+use Rattle.std.proofs.Common.{◌≡◌, ℕ, ◌<◌, List, length, slice_get, Some, refl, sym, ◌∙◌, ap, subst, inl, inr}
 use Rattle.std.proofs.lemmas.Option.{slice_get_within}
 use Rattle.std.proofs.lemmas.Bool.{cases_order}
+use Rattle.controller_api.specs.Reaction.{Reaction}
+use Rattle.controller_api.specs.declared.item.UpItem.{UpItem}
+use Rattle.machine_setup.specs.declared.setup.Setup.{Setup}
+use Rattle.event_world.specs.World.{Situation}
 use Rattle.event_machine.specs.declared.legal.LogNo.{LogNo}
 use Rattle.event_machine.specs.declared.legal.LogNo.TheVariants.{NotLegal, WorkerOrder, EndWrong, OutOfMemory}
-use Rattle.event_machine.specs.declared.setup.Setup.{Setup}
 use Rattle.event_machine.specs.declared.trace.Entry.{Entry}
 use Rattle.event_machine.specs.declared.trace.Trace.{Trace}
-use Rattle.event_machine.specs.Legal.{IsLegal, IsNextOfWorker, IsSoundTo, IsLegalRun, IsWrong, IsNotLegalAt, IsOutOfOrderAt, earlier_of}
+use Rattle.event_machine.specs.Legal.{IsLegalIn, IsSoundTo, IsLegalRun, IsWrong, IsFirstWrong, IsWrongEntry, earlier_of, world_before}
+use Rattle.log_doc.specs.Idle.{as_it_is, ignores}
 use Rattle.log_doc.specs.declared.log.Log.{Log}
 use Rattle.log_doc.specs.declared.log.DocFail.TheVariants.{Refused}
 use Rattle.log_doc.specs.Log.{log_of, IsLogText, IsRefused}
@@ -33,74 +37,88 @@ one_rule bytes n m p q one other = elim one.1 [
   | inr a ↦ elim other.1 [ inl b ↦ absurd (b.1 a.1.0.0 a.1.0.1) | inr b ↦ a.0 ∙ sym b.0 ]
 ]
 
--- the entry at the place is the first that is not sound
-record Stops (setup : Setup) (entries : List Entry) (at : ℕ) (entry : Entry) : Type 0 where
-  pub here : slice_get entries at ≡ Some entry
-  pub before : IsSoundTo setup entries at
-  pub unsound : (IsLegal setup entries at entry × IsNextOfWorker entries at entry) → ⊥
-
--- it stands at one place
-one_stop : (setup : Setup) (entries : List Entry) (a b : ℕ) (e f : Entry) → Stops setup entries a e → Stops setup entries b f → a ≡ b
-one_stop setup entries a b e f one other = elim (cases_order a b) [
-  | inl same ↦ same
-  | inr apart ↦ elim apart [
-    | inl below ↦ absurd (one.unsound (other.before a e below one.here))
-    | inr above ↦ absurd (other.unsound (one.before b f above other.here))
-  ]
-]
-
--- it is one entry
+-- it is one entry at one place
 one_entry : (entries : List Entry) (a b : ℕ) (e f : Entry) → a ≡ b → slice_get entries a ≡ Some e → slice_get entries b ≡ Some f → e ≡ f
 one_entry entries a b e f same one other = let moved = ap (λ n. slice_get entries n) same in cc
 
--- a trace stops where an entry is not legal, or out of its worker's order
-not_legal_stops : (setup : Setup) (entries : List Entry) (at : ℕ) (w : IsNotLegalAt setup entries at) → Stops setup entries at w.0
-not_legal_stops setup entries at w = record { here = w.1; before = w.2; unsound = λ both. w.3 both.0 }
+-- it is not want of memory
+abbrev IsCause : LogNo → Type 0
+IsCause why = why ≡ OutOfMemory → ⊥
 
-out_of_order_stops : (setup : Setup) (entries : List Entry) (at want has : ℕ) (w : IsOutOfOrderAt setup entries at want has) → Stops setup entries at w.0
-out_of_order_stops setup entries at want has w = record { here = w.1; before = w.2; unsound = λ both. w.6 (w.4 ∙ sym both.1 ∙ sym w.5) }
+module _ {C : Type 0} where
+  -- an entry that is wrong is not sound
+  not_sound : (setup : Setup C) (world : Situation C) (want at : ℕ) (entry : Entry) (why : LogNo) → IsCause why → IsWrongEntry setup world want at entry why → (IsLegalIn setup world at entry × (entry.number ≡ want)) → ⊥
+  not_sound setup world want at entry (NotLegal place) cause w both = w.1 both.0
+  not_sound setup world want at entry (WorkerOrder place next has) cause w both = w.4 (w.2 ∙ sym both.1 ∙ sym w.3)
+  not_sound setup world want at entry EndWrong cause w both = w
+  not_sound setup world want at entry OutOfMemory cause w both = cause refl
 
--- a trace that is sound to its end stops nowhere
-no_stop : (setup : Setup) (entries : List Entry) (at : ℕ) (e : Entry) → IsSoundTo setup entries (length entries) → Stops setup entries at e → ⊥
-no_stop setup entries at e sound stop = stop.unsound (sound at e (slice_get_within entries at e stop.here) stop.here)
+  -- what is wrong with an entry is one thing
+  one_flaw : (setup : Setup C) (world : Situation C) (want at : ℕ) (entry : Entry) (why other : LogNo) → IsCause why → IsCause other → IsWrongEntry setup world want at entry why → IsWrongEntry setup world want at entry other → why ≡ other
+  one_flaw setup world want at entry (NotLegal a) (NotLegal b) cause reason w v = ap NotLegal (w.0 ∙ sym v.0)
+  one_flaw setup world want at entry (NotLegal a) (WorkerOrder b next has) cause reason w v = absurd (w.1 v.1)
+  one_flaw setup world want at entry (WorkerOrder a next has) (NotLegal b) cause reason w v = absurd (v.1 w.1)
+  one_flaw setup world want at entry (WorkerOrder a next has) (WorkerOrder b wanted had) cause reason w v =
+      let place : a ≡ b = w.0 ∙ sym v.0 in
+      let wants : next ≡ wanted = w.2 ∙ sym v.2 in
+      let number : has ≡ had = w.3 ∙ sym v.3 in
+      cc
+  one_flaw setup world want at entry EndWrong other cause reason w v = absurd w
+  one_flaw setup world want at entry OutOfMemory other cause reason w v = absurd (cause refl)
+  one_flaw setup world want at entry why EndWrong cause reason w v = absurd v
+  one_flaw setup world want at entry why OutOfMemory cause reason w v = absurd (reason refl)
 
--- a legal run has nothing wrong
-legal_or_wrong : (setup : Setup) (trace : Trace) (why : LogNo) → IsLegalRun setup trace → IsWrong setup trace why → (why ≡ OutOfMemory → ⊥) → ⊥
-legal_or_wrong setup trace (NotLegal at) run w said = no_stop setup trace.entries at w.0 run.entries (not_legal_stops setup trace.entries at w)
-legal_or_wrong setup trace (WorkerOrder at want has) run w said = no_stop setup trace.entries at w.0 run.entries (out_of_order_stops setup trace.entries at want has w)
-legal_or_wrong setup trace EndWrong run w said = w.1 run.end
-legal_or_wrong setup trace OutOfMemory run w said = said refl
+  module _ (react : C → UpItem → Reaction C) (first : C → C) where
+    -- a trace that is sound up to its end has no first entry that is wrong
+    none_wrong : (setup : Setup C) (entries : List Entry) (at : ℕ) (entry : Entry) (why : LogNo) → IsCause why → IsSoundTo react first setup entries (length entries) → IsFirstWrong react first setup entries at entry why → ⊥
+    none_wrong setup entries at entry why cause sound w =
+        not_sound setup (world_before react first setup entries at) (earlier_of entries at entry.worker) at entry why cause w.wrong
+        (sound at entry (slice_get_within entries at entry w.here) w.here)
 
--- two entries out of order at one place are told alike
-one_order : (setup : Setup) (entries : List Entry) (a b v w h g : ℕ) → IsOutOfOrderAt setup entries a v h → IsOutOfOrderAt setup entries b w g → WorkerOrder a v h ≡ WorkerOrder b w g
-one_order setup entries a b v w h g one other =
-    let place : a ≡ b = one_stop setup entries a b one.0 other.0 (out_of_order_stops setup entries a v h one) (out_of_order_stops setup entries b w g other) in
-    let entry : one.0 ≡ other.0 = one_entry entries a b one.0 other.0 place one.1 other.1 in
-    let wanted : v ≡ w = one.4 ∙ ap (λ n. earlier_of entries n one.0.worker) place ∙ ap (λ (e : Entry). earlier_of entries b e.worker) entry ∙ sym other.4 in
-    let had : h ≡ g = one.5 ∙ ap (λ (e : Entry). e.number) entry ∙ sym other.5 in
-    cc
+    -- the first entry that is wrong doesn't stand before another one
+    not_before : (setup : Setup C) (entries : List Entry) (a b : ℕ) (e f : Entry) (why other : LogNo) → IsCause why → IsFirstWrong react first setup entries a e why → IsFirstWrong react first setup entries b f other → a < b → ⊥
+    not_before setup entries a b e f why other cause one two below =
+        not_sound setup (world_before react first setup entries a) (earlier_of entries a e.worker) a e why cause one.wrong (two.before a e below one.here)
 
--- an entry that is not legal is not told as one out of order
-not_both : (setup : Setup) (entries : List Entry) (a b v h : ℕ) → IsNotLegalAt setup entries a → IsOutOfOrderAt setup entries b v h → ⊥
-not_both setup entries a b v h one other =
-    let place : a ≡ b = one_stop setup entries a b one.0 other.0 (not_legal_stops setup entries a one) (out_of_order_stops setup entries b v h other) in
-    let entry : one.0 ≡ other.0 = one_entry entries a b one.0 other.0 place one.1 other.1 in
-    let there : IsLegal setup entries a other.0 = subst (λ n. IsLegal setup entries n other.0) (sym place) other.3 in
-    one.3 (subst (λ e. IsLegal setup entries a e) (sym entry) there)
+    -- it stands at one place
+    one_place : (setup : Setup C) (entries : List Entry) (a b : ℕ) (e f : Entry) (why other : LogNo) → IsCause why → IsCause other → IsFirstWrong react first setup entries a e why → IsFirstWrong react first setup entries b f other → a ≡ b
+    one_place setup entries a b e f why other cause reason one two = elim (cases_order a b) [
+      | inl same ↦ same
+      | inr apart ↦ elim apart [
+        | inl below ↦ absurd (not_before setup entries a b e f why other cause one two below)
+        | inr above ↦ absurd (not_before setup entries b a f e other why reason two one above)
+      ]
+    ]
 
--- what is wrong with a trace is one thing
-one_wrong : (setup : Setup) (trace : Trace) (why other : LogNo) → IsWrong setup trace why → IsWrong setup trace other → (why ≡ OutOfMemory → ⊥) → (other ≡ OutOfMemory → ⊥) → why ≡ other
-one_wrong setup trace (NotLegal a) (NotLegal b) w v said told = ap NotLegal (one_stop setup trace.entries a b w.0 v.0 (not_legal_stops setup trace.entries a w) (not_legal_stops setup trace.entries b v))
-one_wrong setup trace (NotLegal a) (WorkerOrder b want has) w v said told = absurd (not_both setup trace.entries a b want has w v)
-one_wrong setup trace (NotLegal a) EndWrong w v said told = absurd (no_stop setup trace.entries a w.0 v.0 (not_legal_stops setup trace.entries a w))
-one_wrong setup trace (WorkerOrder a want has) (NotLegal b) w v said told = absurd (not_both setup trace.entries b a want has v w)
-one_wrong setup trace (WorkerOrder a want has) (WorkerOrder b next had) w v said told = one_order setup trace.entries a b want next has had w v
-one_wrong setup trace (WorkerOrder a want has) EndWrong w v said told = absurd (no_stop setup trace.entries a w.0 v.0 (out_of_order_stops setup trace.entries a want has w))
-one_wrong setup trace EndWrong (NotLegal b) w v said told = absurd (no_stop setup trace.entries b v.0 w.0 (not_legal_stops setup trace.entries b v))
-one_wrong setup trace EndWrong (WorkerOrder b want has) w v said told = absurd (no_stop setup trace.entries b v.0 w.0 (out_of_order_stops setup trace.entries b want has v))
-one_wrong setup trace EndWrong EndWrong w v said told = refl
-one_wrong setup trace OutOfMemory other w v said told = absurd (said refl)
-one_wrong setup trace why OutOfMemory w v said told = absurd (told refl)
+    -- what is wrong with it is one thing
+    one_first : (setup : Setup C) (entries : List Entry) (a b : ℕ) (e f : Entry) (why other : LogNo) → IsCause why → IsCause other → IsFirstWrong react first setup entries a e why → IsFirstWrong react first setup entries b f other → why ≡ other
+    one_first setup entries a b e f why other cause reason one two =
+        let place : a ≡ b = one_place setup entries a b e f why other cause reason one two in
+        let entry : e ≡ f = one_entry entries a b e f place one.here two.here in
+        let there = subst (λ (n : ℕ). IsWrongEntry setup (world_before react first setup entries n) (earlier_of entries n e.worker) n e why) place one.wrong in
+        let same = subst (λ (x : Entry). IsWrongEntry setup (world_before react first setup entries b) (earlier_of entries b x.worker) b x why) entry there in
+        one_flaw setup (world_before react first setup entries b) (earlier_of entries b f.worker) b f why other cause reason same two.wrong
+
+    -- a legal run has nothing wrong
+    legal_or_wrong : (setup : Setup C) (trace : Trace) (why : LogNo) → IsLegalRun react first setup trace → IsWrong react first setup trace why → IsCause why → ⊥
+    legal_or_wrong setup trace (NotLegal at) run w cause = none_wrong setup trace.entries w.0 w.1 (NotLegal at) cause run.entries w.2
+    legal_or_wrong setup trace (WorkerOrder at want has) run w cause = none_wrong setup trace.entries w.0 w.1 (WorkerOrder at want has) cause run.entries w.2
+    legal_or_wrong setup trace EndWrong run w cause = w.1 run.end
+    legal_or_wrong setup trace OutOfMemory run w cause = cause refl
+
+    -- what is wrong with a trace is one thing
+    one_wrong : (setup : Setup C) (trace : Trace) (why other : LogNo) → IsWrong react first setup trace why → IsWrong react first setup trace other → IsCause why → IsCause other → why ≡ other
+    one_wrong setup trace (NotLegal a) (NotLegal b) w v cause reason = one_first setup trace.entries w.0 v.0 w.1 v.1 (NotLegal a) (NotLegal b) cause reason w.2 v.2
+    one_wrong setup trace (NotLegal a) (WorkerOrder b want has) w v cause reason = one_first setup trace.entries w.0 v.0 w.1 v.1 (NotLegal a) (WorkerOrder b want has) cause reason w.2 v.2
+    one_wrong setup trace (NotLegal a) EndWrong w v cause reason = absurd (none_wrong setup trace.entries w.0 w.1 (NotLegal a) cause v.0 w.2)
+    one_wrong setup trace (WorkerOrder a want has) (NotLegal b) w v cause reason = one_first setup trace.entries w.0 v.0 w.1 v.1 (WorkerOrder a want has) (NotLegal b) cause reason w.2 v.2
+    one_wrong setup trace (WorkerOrder a want has) (WorkerOrder b next had) w v cause reason = one_first setup trace.entries w.0 v.0 w.1 v.1 (WorkerOrder a want has) (WorkerOrder b next had) cause reason w.2 v.2
+    one_wrong setup trace (WorkerOrder a want has) EndWrong w v cause reason = absurd (none_wrong setup trace.entries w.0 w.1 (WorkerOrder a want has) cause v.0 w.2)
+    one_wrong setup trace EndWrong (NotLegal b) w v cause reason = absurd (none_wrong setup trace.entries v.0 v.1 (NotLegal b) reason w.0 v.2)
+    one_wrong setup trace EndWrong (WorkerOrder b want has) w v cause reason = absurd (none_wrong setup trace.entries v.0 v.1 (WorkerOrder b want has) reason w.0 v.2)
+    one_wrong setup trace EndWrong EndWrong w v cause reason = refl
+    one_wrong setup trace OutOfMemory other w v cause reason = absurd (cause refl)
+    one_wrong setup trace why OutOfMemory w v cause reason = absurd (reason refl)
 
 -- two answers with the same code and text, or none at all
 abbrev Same : ℕ → ℕ → List ℕ → List ℕ → Type 0
@@ -118,14 +136,14 @@ one_refusal bytes text more a b =
 one_illegal : (bytes text more : List ℕ) → IsIllegal bytes text → IsIllegal bytes more → text ≡ more
 one_illegal bytes text more a b =
     let log : b.0 ≡ a.0 = one_log bytes b.0 a.0 b.2 a.2 in
-    let wrong = subst (λ (l : Log). IsWrong l.scenario.setup l.trace b.1) log b.3 in
-    a.5 ∙ ap wrong_line (one_wrong a.0.scenario.setup a.0.trace a.1 b.1 a.3 wrong a.4 b.4) ∙ sym b.5
+    let wrong = subst (λ (l : Log). IsWrong ignores as_it_is l.scenario.setup l.trace b.1) log b.3 in
+    a.5 ∙ ap wrong_line (one_wrong ignores as_it_is a.0.scenario.setup a.0.trace a.1 b.1 a.3 wrong a.4 b.4) ∙ sym b.5
 
 replay_or_illegal : (bytes text more : List ℕ) → IsReplay bytes text → IsIllegal bytes more → ⊥
 replay_or_illegal bytes text more a b =
     let log : b.0 ≡ a.0 = one_log bytes b.0 a.0 b.2 a.1 in
-    let wrong = subst (λ (l : Log). IsWrong l.scenario.setup l.trace b.1) log b.3 in
-    legal_or_wrong a.0.scenario.setup a.0.trace b.1 a.2 wrong b.4
+    let wrong = subst (λ (l : Log). IsWrong ignores as_it_is l.scenario.setup l.trace b.1) log b.3 in
+    legal_or_wrong ignores as_it_is a.0.scenario.setup a.0.trace b.1 a.2 wrong b.4
 
 pub one_answer : (bytes : List ℕ) (code other : ℕ) (text more : List ℕ) → IsAnswer bytes code text → IsAnswer bytes other more → (code ≡ other) × (text ≡ more)
 one_answer bytes code other text more one two = elim one [

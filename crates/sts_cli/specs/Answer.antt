@@ -5,6 +5,7 @@ use Rattle.std.specs.Io.KnownBytes.{IsAtEnd, Appends}
 use Rattle.event_machine.specs.declared.legal.LogNo.{LogNo}
 use Rattle.event_machine.specs.declared.legal.LogNo.TheVariants.{OutOfMemory}
 use Rattle.event_machine.specs.Legal.{IsLegalRun, IsWrong}
+use Rattle.log_doc.specs.Idle.{as_it_is, ignores}
 use Rattle.log_doc.specs.declared.log.DocFail.TheVariants.{Refused}
 use Rattle.log_doc.specs.declared.log.Log.{Log}
 use Rattle.log_doc.specs.Log.{IsLogText, IsRefused}
@@ -16,7 +17,7 @@ IsForm words = map string_bytes words ≡ codes "replay" ∷ []
 
 -- the bytes are a log that is a legal run of its scenario, and the text is its replay
 abbrev pub IsReplay : List ℕ → List ℕ → Type 0
-IsReplay bytes text = (log : Log) × IsLogText bytes log × IsLegalRun log.scenario.setup log.trace × (text ≡ replay_text log.trace)
+IsReplay bytes text = (log : Log) × IsLogText bytes log × IsLegalRun ignores as_it_is log.scenario.setup log.trace × (text ≡ replay_text log.trace)
 
 -- the bytes are no document that is read, and the text says which rule is broken, and where
 abbrev pub IsRefusal : List ℕ → List ℕ → Type 0
@@ -24,7 +25,7 @@ IsRefusal bytes text = (number : ℕ) × (path : List ℕ) × IsRefused bytes (R
 
 -- the bytes are a log that is no legal run of its scenario, and the text says what is wrong
 abbrev pub IsIllegal : List ℕ → List ℕ → Type 0
-IsIllegal bytes text = (log : Log) × (why : LogNo) × IsLogText bytes log × IsWrong log.scenario.setup log.trace why
+IsIllegal bytes text = (log : Log) × (why : LogNo) × IsLogText bytes log × IsWrong ignores as_it_is log.scenario.setup log.trace why
     × (why ≢ OutOfMemory) × (text ≡ wrong_line why)
 
 -- what is answered to the bytes: status 0 with the replay, 3 with the refusal, 4 with what is not legal
@@ -49,8 +50,8 @@ IsAnswered left_old left_new taken_old taken_new code = (bytes : List ℕ) × (t
 
 -- a log is judged: its replay where it is a legal run, else what is wrong
 abbrev pub IsJudged : Log → ℕ → List ℕ → Type 0
-IsJudged log code text = ((code ≡ 0) × IsLegalRun log.scenario.setup log.trace × (text ≡ replay_text log.trace))
-    ⊎ ((code ≡ 4) × ((why : LogNo) × IsWrong log.scenario.setup log.trace why × (why ≢ OutOfMemory) × (text ≡ wrong_line why)))
+IsJudged log code text = ((code ≡ 0) × IsLegalRun ignores as_it_is log.scenario.setup log.trace × (text ≡ replay_text log.trace))
+    ⊎ ((code ≡ 4) × ((why : LogNo) × IsWrong ignores as_it_is log.scenario.setup log.trace why × (why ≢ OutOfMemory) × (text ≡ wrong_line why)))
 
 -- the statuses whose text is written whole
 abbrev pub IsTold : ℕ → Type 0

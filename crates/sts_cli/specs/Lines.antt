@@ -2,8 +2,8 @@
 use Rattle.std.specs.Prelude.{ℕ, List, [], ◌∷◌, ◌++◌, length, flat_map, codes}
 use Rattle.std.specs.Fmt.{decimal}
 use Rattle.std.specs.List.{enumerate_from}
-use Rattle.event_machine.specs.declared.event.Event.{Event}
-use Rattle.event_machine.specs.declared.event.Event.TheVariants.{In, Pkt}
+use Rattle.event_world.specs.declared.event.Event.{Event}
+use Rattle.event_world.specs.declared.event.Event.TheVariants.{In, Ctl, Pkt, Note, App, Admin, Recv}
 use Rattle.event_machine.specs.declared.legal.LogNo.{LogNo}
 use Rattle.event_machine.specs.declared.legal.LogNo.TheVariants.{NotLegal, WorkerOrder, EndWrong, OutOfMemory}
 use Rattle.event_machine.specs.declared.trace.Entry.{Entry}
@@ -13,12 +13,22 @@ use Rattle.event_machine.specs.declared.trace.Trace.{Trace}
 abbrev pub line_feed : List ℕ
 line_feed = 10 ∷ []
 
--- Step number j of a replay that takes every entry: an input by its position, and any other event as the entry expected,
--- which is entry number j, with the event's pool and the item's number.
+-- The words of an event: an input by its position, and any other event by its pool and the item's number. A pool is told by
+-- who takes from it, and by the port or the switch from which its items come, where there are several.
+abbrev pub event_text : Event → List ℕ
+event_text (In position) = codes "in " ++ decimal position
+event_text (Ctl s item) = codes "ctl " ++ (decimal s ++ (codes " " ++ decimal item))
+event_text (Pkt s p item) = codes "pkt " ++ (decimal s ++ (codes " " ++ (decimal p ++ (codes " " ++ decimal item))))
+event_text (Note s item) = codes "note " ++ (decimal s ++ (codes " " ++ decimal item))
+event_text (App c s item) = codes "app " ++ (decimal c ++ (codes " " ++ (decimal s ++ (codes " " ++ decimal item))))
+event_text (Admin c item) = codes "admin " ++ (decimal c ++ (codes " " ++ decimal item))
+event_text (Recv h item) = codes "recv " ++ (decimal h ++ (codes " " ++ decimal item))
+
+-- Step number j of a replay that takes every entry: an input by its position, and any other event as the entry expected, which
+-- is entry number j.
 abbrev pub step_line : ℕ → Event → List ℕ
 step_line j (In position) = decimal j ++ (codes " input " ++ (decimal position ++ line_feed))
-step_line j (Pkt s p number) = decimal j ++ (codes " expected " ++ (decimal j ++ (codes " pkt " ++ (decimal s
-    ++ (codes " " ++ (decimal p ++ (codes " " ++ (decimal number ++ line_feed))))))))
+step_line j internal = decimal j ++ (codes " expected " ++ (decimal j ++ (codes " " ++ (event_text internal ++ line_feed))))
 
 -- how many steps a replay has
 abbrev pub head_line : ℕ → List ℕ

@@ -1,6 +1,6 @@
 //! What the program answers to the bytes that it read.
 ghost use Rattle.std.specs.Prelude.{◌≡◌, IfOk};
-ghost use Rattle.event_machine.specs.Setup.{IsValidSetup};
+ghost use Rattle.machine_setup.specs.Setup.{IsValidSetup};
 ghost use Rattle.sts_cli.specs.Answer.{IsAnswer, IsJudged};
 
 use crate::lines::{refused_line, replay_text, wrong_line};

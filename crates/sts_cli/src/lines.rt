@@ -1,7 +1,7 @@
 //! The lines that the program writes.
 ghost use Rattle.std.specs.Prelude.{◌≡◌, ◌≢◌, ◌++◌, IfOk, OnOk, string_bytes};
 ghost use Rattle.event_machine.specs.declared.legal.LogNo.TheVariants.{OutOfMemory};
-ghost use Rattle.sts_cli.specs.Lines.{step_line, step_lines, head_line, replay_text, refused_line, wrong_line};
+ghost use Rattle.sts_cli.specs.Lines.{event_text, step_line, step_lines, head_line, replay_text, refused_line, wrong_line};
 
 use event_machine::{Entry, Event, LogNo, Trace};
 use std::alloc::{AllocError, Global};
@@ -31,9 +31,26 @@ fn push_steps(text: &mut String, entries: &[Entry]) -> Result<(), AllocError>
 fn push_step(text: &mut String, at: usize, event: &Event) -> Result<(), AllocError>
     ensures { OnOk result (string_bytes text.new ≡ string_bytes text.old ++ step_line at event.now) }
 {
+    if let Event::In(position) = event {
+        return writeln!(text, "{at} input {position}");
+    }
+    write!(text, "{at} expected {at} ")?;
+    push_event(text, event)?;
+    text.push('\n')
+}
+
+// The words of an event.
+fn push_event(text: &mut String, event: &Event) -> Result<(), AllocError>
+    ensures { OnOk result (string_bytes text.new ≡ string_bytes text.old ++ event_text event.now) }
+{
     match *event {
-        Event::In(position) => writeln!(text, "{at} input {position}"),
-        Event::Pkt { s, p, item } => writeln!(text, "{at} expected {at} pkt {s} {p} {item}"),
+        Event::In(position) => write!(text, "in {position}"),
+        Event::Ctl { s, item } => write!(text, "ctl {s} {item}"),
+        Event::Pkt { s, p, item } => write!(text, "pkt {s} {p} {item}"),
+        Event::Note { s, item } => write!(text, "note {s} {item}"),
+        Event::App { c, s, item } => write!(text, "app {c} {s} {item}"),
+        Event::Admin { c, item } => write!(text, "admin {c} {item}"),
+        Event::Recv { h, item } => write!(text, "recv {h} {item}"),
     }
 }
 

@@ -1,6 +1,0 @@
-use Rattle.std.proofs.Common.{◌≡◌, take}
-use Rattle.topology.specs.Network.{ends_of}
-use Rattle.event_machine.proofs.valid.ends.Given as goal
-
-abbrev pub invariant-loop-link : goal.invariant-loop-link
-invariant-loop-link l = l.ends.items ≡ ends_of (take l.link-index l.links)
