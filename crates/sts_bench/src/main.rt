@@ -1,16 +1,19 @@
-//! Times layers of the workspace, one by one: `sts_bench LAYER COUNT`, where LAYER is `messages`, `tables`, `turn_book` or
-//! `all`. Figures go to standard error. Messages go by whole hundreds.
+//! Times layers of the workspace, one by one: `sts_bench LAYER COUNT`, where LAYER is `messages`, `tables`, `turn_book`,
+//! `world` or `all`. Figures go to standard error. Messages go by whole hundreds.
 #![tactic(auto)]
 
 mod figure;
 mod messages;
+mod relay;
 mod tables;
 mod turns;
+mod worlds;
 
 use anyhow::{Result, bail};
 use std::env;
 use std::thread::Threads;
 use std::time::{Clock, Duration};
+use worlds::Size;
 
 /// Nanoseconds for each of so many calls, in tenths.
 fn tenths_each(time: Duration, count: u64) -> u128 {
@@ -79,21 +82,45 @@ fn time_turns<R: AllocGlobal + Clock + Eprint + Print + Threads + Sync>(
     Ok(())
 }
 
+fn time_worlds<R: AllocGlobal + Clock + Eprint + Print>(rt: &R, count: u64) -> Result<()> {
+    let quarter = count / 4;
+    for size in worlds::SIZES {
+        let Size { switches, ports } = size;
+        let figures = worlds::timed(rt, size, quarter)?;
+        let first = tenths_each(figures.first.time, quarter);
+        let last = tenths_each(figures.last.time, quarter);
+        eprintln!(rt;
+            "world: {switches} switches of {ports} ports: first {quarter}: {}.{} ns each, last {quarter}: {}.{} ns each",
+            first / 10,
+            first % 10,
+            last / 10,
+            last % 10
+        )?;
+        println!(rt;
+            "world: {switches} switches of {ports} ports: {} events, {} inputs, {} packets taken first, {} last",
+            figures.events, figures.inputs, figures.first.sum, figures.last.sum
+        )?;
+    }
+    Ok(())
+}
+
 fn main(rt: HostRuntime) -> Result<()> {
     let mut words = env::args(&rt)?.skip(1);
     let (Some(layer), Some(count)) = (words.next(), words.next()) else {
-        bail!("usage: sts_bench messages|tables|turn_book|all COUNT");
+        bail!("usage: sts_bench messages|tables|turn_book|world|all COUNT");
     };
     let count = count.parse::<u64>()?;
     match layer.as_str() {
         "messages" => time_messages(&rt, count),
         "tables" => time_tables(&rt, count),
         "turn_book" => time_turns(&rt, count),
+        "world" => time_worlds(&rt, count),
         "all" => {
             time_messages(&rt, count)?;
             time_tables(&rt, count)?;
-            time_turns(&rt, count)
+            time_turns(&rt, count)?;
+            time_worlds(&rt, count)
         }
-        _ => bail!("usage: sts_bench messages|tables|turn_book|all COUNT"),
+        _ => bail!("usage: sts_bench messages|tables|turn_book|world|all COUNT"),
     }
 }
