@@ -1,0 +1,6 @@
+-- What is sent at an item is few.
+use Rattle.controller_apps.proofs.Joined.{few_sent}
+use Rattle.controller_apps.proofs.firewall.FirewallController.handle.Goals as goal
+
+pub returns-in-Ok-clause-few : goal.returns-in-Ok-clause-few
+returns-in-Ok-clause-few c = few_sent c.args.self.now c.args.item.now c.parts.ensures c.requires.policies

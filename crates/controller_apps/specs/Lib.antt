@@ -1,0 +1,4 @@
+pub mod Extending
+pub mod Firewall
+pub mod Learning
+pub mod Ports
