@@ -1,12 +1,11 @@
 -- The switches that have joined a firewall, and how much it sends.
-use Rattle.std.proofs.Common.{◌≡◌, ◌∙◌, ◌+◌, ◌<◌, ◌≤◌, ◌^◌, ◌==◌, ◌||◌, ℕ, List, [], ◌∷◌, ◌++◌, Bool, true, false, cond, All, filter, length, map, nat_lt, nat_cmp, not, suc, Result, Ok, Err, OnOk, OnErr, ap, append_assoc, arith, inl, inr, refl, sym, subst}
+use Rattle.std.proofs.Common.{◌≡◌, ◌∙◌, ◌+◌, ◌<◌, ◌≤◌, ◌^◌, ◌==◌, ◌||◌, ℕ, List, [], ◌∷◌, ◌++◌, Bool, true, false, cond, All, filter, length, map, nat_lt, nat_cmp, not, suc, Result, Ok, Err, OnOk, OnErr, ap, arith, inl, inr, refl, sym, subst}
 use Rattle.std.proofs.lemmas.Bool.{cases_order, eq-eqb, le-ltb, lt-ltb, ne_eqb}
-use Rattle.std.proofs.lemmas.List.{length-append, length-map, map-append}
+use Rattle.std.proofs.lemmas.List.{length-append, length-map}
 use Rattle.std.proofs.lemmas.List.Elements.{All-append, All-cons, All-head, All-nil, All-push, All-tail}
 use Rattle.std.proofs.lemmas.Map.Keys.{below_from_sorted, sorted_tail}
 use Rattle.std.specs.BTreeMap.{is_at}
 use Rattle.std.specs.BTreeSet.{insert_key}
-use Rattle.std.specs.List.{list_any}
 use Rattle.std.specs.List.Sorted.{IsStrictlySortedBy}
 use Rattle.controller_api.specs.Reaction.{Reaction}
 use Rattle.controller_api.specs.declared.item.UpItem.{UpItem}
@@ -14,7 +13,6 @@ use Rattle.controller_api.specs.declared.item.UpItem.TheVariants.{FromSwitch, Go
 use Rattle.controller_apps.specs.Firewall.{IsWall, Wall, at_features, denial, guarding, has_joined, rules_of, unmoved, with_joined}
 use Rattle.of10_match.specs.Match.{IsValidMatch}
 use Rattle.of10_match.specs.declared.matches.Match.{Match}
-use Rattle.of10_messages.specs.declared.message.Message.{Message}
 use Rattle.of10_messages.specs.declared.message.Message.TheVariants.{FeaturesReply}
 
 -- ---- filters
@@ -36,7 +34,7 @@ all_kept P p (x ∷ xs) all =
 
 -- ---- switches in ascending order
 
-all_above : (x : ℕ) (xs : List ℕ) → IsStrictlySortedBy nat_cmp (x ∷ xs) → All (λ y. x < y) xs
+pub all_above : (x : ℕ) (xs : List ℕ) → IsStrictlySortedBy nat_cmp (x ∷ xs) → All (λ y. x < y) xs
 all_above x xs sorted = λ k d within. below_from_sorted (x ∷ xs) 0 (suc k) d sorted (omega arith) (omega arith)
 
 -- where a number is put among ascending ones, those below it stand before it and those above it after it
@@ -57,17 +55,13 @@ inserted s (x ∷ xs) sorted =
     ]
 
 -- whether a switch is among them
-same_test : (s t : ℕ) → is_at (nat_cmp s) t ≡ (t == s)
+pub same_test : (s t : ℕ) → is_at (nat_cmp s) t ≡ (t == s)
 same_test s t =
     elim (cases_order s t) [
       | inl same ↦ rw (le-ltb s t (omega arith), eq-eqb s t same, eq-eqb t s (sym same)) refl
       | inr (inl less) ↦ rw (lt-ltb s t less, ne_eqb t s (λ e. omega arith)) refl
       | inr (inr more) ↦ rw (le-ltb s t (omega arith), ne_eqb s t (λ e. omega arith), ne_eqb t s (λ e. omega arith)) refl
     ]
-
-pub found : (s : ℕ) (xs : List ℕ) → list_any (is_at (nat_cmp s)) xs ≡ list_any (λ t. t == s) xs
-found s [] = refl
-found s (x ∷ xs) = ap (λ b. b || list_any (is_at (nat_cmp s)) xs) (same_test s x) ∙ ap (λ b. (x == s) || b) (found s xs)
 
 -- ascending numbers below a bound are no more than the bound
 fit_between : (x : ℕ) (xs : List ℕ) (bound : ℕ) → IsStrictlySortedBy nat_cmp (x ∷ xs) → All (λ y. y < bound) (x ∷ xs) → x + length (x ∷ xs) ≤ bound
@@ -111,14 +105,6 @@ pub joined_state : (s : ℕ) (wall now : Wall) (keys : List ℕ) → wall ≡ no
     → record wall { joined = keys } ≡ (at_features s now).state
 joined_state s wall now keys view is test put = joined_is s wall keys is put ∙ ap (λ (r : Reaction Wall). r.state) (sym (joins s wall test)) ∙ ap (λ (w : Wall). (at_features s w).state) view
 
-pub joined_sent : (s : ℕ) (wall now : Wall) (out between after : List (ℕ × Message)) → wall ≡ now → (wall.reinstall || not (has_joined wall s)) ≡ true
-    → between ≡ out ++ map {B = ℕ × Message} (λ rule. (s, denial rule)) wall.made → after ≡ between ++ map {B = ℕ × Message} (λ rule. (s, denial rule)) wall.policies → after ≡ out ++ (at_features s now).sent
-joined_sent s wall now out between after view test first later =
-    let entries = λ (rules : List Match). map {B = ℕ × Message} (λ (rule : Match). (s, denial rule)) rules in
-    later ∙ ap (λ (xs : List (ℕ × Message)). xs ++ entries wall.policies) first ∙ append_assoc out (entries wall.made) (entries wall.policies)
-    ∙ ap (λ (xs : List (ℕ × Message)). out ++ xs) (sym (map-append {B = ℕ × Message} (λ (rule : Match). (s, denial rule)) wall.made wall.policies) ∙ ap (λ (r : Reaction Wall). r.sent) (sym (joins s wall test)))
-    ∙ ap (λ (w : Wall). out ++ (at_features s w).sent) view
-
 -- a valid policy is kept, or none
 pub policy_kept : {E : Type 0} (result : Result (Unit {0}) E) (rules new : List Match) (deny : Match) → OnOk result (new ≡ rules ++ deny ∷ []) → OnErr result (new ≡ rules)
     → All IsValidMatch rules → IsValidMatch deny → All IsValidMatch new
@@ -131,15 +117,15 @@ short_map : {A B : Type 0} (f : A → B) (xs : List A) (bound : ℕ) → length 
 short_map f xs bound less = rw (length-map xs f) less
 
 few_rules : (b : Bool) (s : ℕ) (wall : Wall) → IsWall wall → length wall.policies < 2 ^ 24
-    → length (cond b (record { state = with_joined s wall; sent = map (λ rule. (s, denial rule)) (rules_of wall) }) (unmoved wall)).sent < 2 ^ 32
+    → length (cond b (record { state = with_joined s wall; sent = map (λ rule. (s, denial rule)) (rules_of wall) }) (unmoved wall)).sent < 2 ^ 25
 few_rules true s wall is policies =
-    short_map (λ (rule : Match). (s, denial rule)) (rules_of wall) (2 ^ 32)
+    short_map (λ (rule : Match). (s, denial rule)) (rules_of wall) (2 ^ 25)
     (let both : length (rules_of wall) ≡ length wall.made + length wall.policies = length-append wall.made wall.policies in let few = is.few in omega arith)
 few_rules false s wall is policies = omega arith
 
 -- at an item few messages are sent
-pub few_sent : (wall : Wall) (item : UpItem) → IsWall wall → length wall.policies < 2 ^ 24 → length (guarding wall item).sent < 2 ^ 32
+pub few_sent : (wall : Wall) (item : UpItem) → IsWall wall → length wall.policies < 2 ^ 24 → length (guarding wall item).sent < 2 ^ 25
 few_sent wall (FromSwitch s (FeaturesReply xid features)) is policies = few_rules _ s wall is policies
 few_sent wall (FromSwitch s _) is policies = omega arith
 few_sent wall (Gone s) is policies = omega arith
-few_sent wall (Policy deny) is policies = short_map (λ (s : ℕ). (s, denial deny)) wall.joined (2 ^ 32) (let few = few_joined wall.joined (2 ^ 16) is.ascending is.narrow in omega arith)
+few_sent wall (Policy deny) is policies = short_map (λ (s : ℕ). (s, denial deny)) wall.joined (2 ^ 25) (let few = few_joined wall.joined (2 ^ 16) is.ascending is.narrow in omega arith)

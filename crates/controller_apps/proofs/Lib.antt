@@ -1,3 +1,4 @@
 pub mod Joined
 pub mod Tables
 pub mod Told
+pub mod Undone

@@ -20,10 +20,10 @@ ties q k =
       | inr (inr more) ↦ rw (le-ltb q k (omega arith), ne_eqb q k (λ e. omega arith)) refl
     ]
 
-ties_itself : (k : ℕ) → eq_by_cmp nat_cmp k k ≡ true
+pub ties_itself : (k : ℕ) → eq_by_cmp nat_cmp k k ≡ true
 ties_itself k = ties k k ∙ eq-eqb k k refl
 
-apart : (q k : ℕ) → q ≢ k → eq_by_cmp nat_cmp q k ≡ false
+pub apart : (q k : ℕ) → q ≢ k → eq_by_cmp nat_cmp q k ≡ false
 apart q k not = ties q k ∙ ne_eqb q k not
 
 -- ---- entries
@@ -101,8 +101,8 @@ way_known s source port other ports not = sym (port_at_same s source port other 
 pub there : {X : Type 0} (m : BTreeMap ℕ X) (ports : FinMap nat_cmp X) (s : ℕ) (o : Option X) → from_entries {R = nat_cmp} m.entries ≡ ports → o ≡ tree.get nat_cmp m s → o ≡ get ports s
 there m ports s o view is = is ∙ sym (get_view m.entries s) ∙ ap (λ all. get all s) view
 
--- the ports of a switch that is in the table are written
-pub switch_written : (m n : BTreeMap ℕ AtSwitch) (ports : Ports) (s : ℕ) (before after : AtSwitch) → from_entries {R = nat_cmp} m.entries ≡ ports → Some before ≡ tree.get nat_cmp m s
+-- a value that is in the table is written
+pub switch_written : {X : Type 0} (m n : BTreeMap ℕ X) (ports : FinMap nat_cmp X) (s : ℕ) (before after : X) → from_entries {R = nat_cmp} m.entries ≡ ports → Some before ≡ tree.get nat_cmp m s
     → WritesThrough nat_cmp (nat_cmp s) m after n → from_entries {R = nat_cmp} n.entries ≡ insert ports s after
 switch_written m n ports s before after view is written = view_updated m n s after (written.3 (subst IsSome is refl)) ∙ ap (λ all. insert all s after) view
 

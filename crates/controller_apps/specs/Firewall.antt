@@ -1,5 +1,5 @@
 -- A firewall: its rules, the switches that have joined, and how it reacts.
-use Rattle.std.specs.Prelude.{ℕ, ◌==◌, ◌||◌, ◌<◌, ◌≤◌, ◌^◌, List, [], ◌∷◌, ◌++◌, All, filter, length, map, nat_lt, not, Bool, if◌then◌else◌}
+use Rattle.std.specs.Prelude.{ℕ, false, ◌==◌, ◌||◌, ◌<◌, ◌≤◌, ◌^◌, List, [], ◌∷◌, ◌++◌, All, filter, length, map, nat_lt, not, Bool, if◌then◌else◌}
 use Rattle.std.specs.List.{list_any}
 use Rattle.std.specs.List.Sorted.{IsStrictlySortedBy}
 use Rattle.std.specs.Ordering.{nat_cmp}
@@ -69,3 +69,8 @@ abbrev pub guarding : Wall → UpItem → Reaction Wall
 guarding wall (FromSwitch s (FeaturesReply xid features)) = at_features s wall
 guarding wall (Policy deny) = at_policy deny wall
 guarding wall other = unmoved wall
+
+-- whether the switch of an item had joined before it
+abbrev pub joined_before : Wall → UpItem → Bool
+joined_before wall (FromSwitch s message) = has_joined wall s
+joined_before wall other = false

@@ -1,14 +1,14 @@
 -- A learning switch: what it knows, and how it reacts.
-use Rattle.std.specs.Prelude.{ℕ, ◌==◌, ◌&&◌, List, [], ◌∷◌, filter_map, refl, reverse, slice_get, Option, Some, None, option_and_then, if◌then◌else◌}
+use Rattle.std.specs.Prelude.{ℕ, ◌==◌, ◌&&◌, Bool, true, false, List, [], ◌∷◌, filter_map, refl, reverse, slice_get, Option, Some, None, option_and_then, if◌then◌else◌}
 use Rattle.std.specs.Coded.{Coded, code_by, coded×, coded_ℕ}
 use Rattle.std.specs.Option.{option_map_or}
 use Rattle.app_messages.specs.Sent.{Sighting, added, exact_match, header_of, out_of, seen_in, sent_on}
 use Rattle.controller_api.specs.Reaction.{Reaction}
 use Rattle.controller_api.specs.declared.item.UpItem.{UpItem}
 use Rattle.controller_api.specs.declared.item.UpItem.TheVariants.{FromSwitch}
-use Rattle.controller_apps.specs.Ports.{Ports, no_ports, port_at, ports_code, with_port, without_switch}
+use Rattle.controller_apps.specs.Ports.{Ports, entry_at, no_ports, port_at, ports_code, with_port, without_switch}
 use Rattle.of10_messages.specs.declared.message.Message.{Message}
-use Rattle.of10_messages.specs.declared.message.Message.TheVariants.{FeaturesReply}
+use Rattle.of10_messages.specs.declared.message.Message.TheVariants.{FeaturesReply, PacketIn}
 
 -- after how many idle seconds its entries go, and at which port of a switch it knows an address
 pub record Learner : Type 0 where
@@ -58,6 +58,16 @@ abbrev pub learning : Learner → UpItem → Reaction Learner
 learning learner (FromSwitch s (FeaturesReply xid features)) = record { state = forgotten s learner; sent = [] }
 learning learner (FromSwitch s message) = option_map_or (λ seen. at_packet s seen learner) (seen_in message) (unmoved learner)
 learning learner other = unmoved learner
+
+-- whether an item is a packet that a switch sent up: nothing else is learnt from
+abbrev pub is_packet : UpItem → Bool
+is_packet (FromSwitch s (PacketIn xid buffer_id total_len in_port reason content)) = true
+is_packet other = false
+
+-- what a learner knows where a packet will be learnt from: of the switch and of the packet's source there
+abbrev pub known_before : Learner → UpItem → Option (Option ℕ)
+known_before learner (FromSwitch s message) = option_and_then (λ seen. entry_at s (header_of seen).dl_src learner.known) (seen_in message)
+known_before learner other = None
 
 -- ---- what is known, by the items heard
 

@@ -1,4 +1,3 @@
-pub mod Extending
 pub mod Firewall
 pub mod Learning
 pub mod Ports

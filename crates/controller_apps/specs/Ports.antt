@@ -1,5 +1,5 @@
 -- The port at which each address is known, switch by switch.
-use Rattle.std.specs.Prelude.{ℕ, Option, option_and_then, unwrap_or}
+use Rattle.std.specs.Prelude.{ℕ, Option, option_and_then, option_map, unwrap_or}
 use Rattle.std.specs.Coded.{Coded, coded_ℕ}
 use Rattle.std.specs.FinMap as map
 use Rattle.std.specs.Ordering.{nat_cmp}
@@ -19,6 +19,10 @@ no_ports = map.empty
 -- the port at which an address is known at a switch
 abbrev pub port_at : ℕ → ℕ → Ports → Option ℕ
 port_at s address ports = option_and_then (λ there. map.get there address) (map.get ports s)
+
+-- what is known of a switch, if anything is: the port at which an address is known there, if it is
+abbrev pub entry_at : ℕ → ℕ → Ports → Option (Option ℕ)
+entry_at s address ports = option_map (λ there. map.get there address) (map.get ports s)
 
 -- the address is known at a port of the switch, and at no other port of it
 abbrev pub with_port : ℕ → ℕ → ℕ → Ports → Ports

@@ -1,8 +1,9 @@
 //! A firewall: it puts entries into its switches that drop the packets of its rules.
-ghost use Rattle.std.specs.Prelude.{◌≡◌, ◌≤◌, ◌<◌, ◌^◌, ◌++◌, length, map, All, OnOk, OnErr};
+ghost use Rattle.std.specs.Prelude.{◌≡◌, ◌≤◌, ◌<◌, ◌^◌, ◌||◌, ◌++◌, not, length, map, All, OnOk, OnErr};
 ghost use Rattle.controller_api.specs.Reaction.{IsValidUpItem};
-ghost use Rattle.controller_apps.specs.Extending.{Extends};
-ghost use Rattle.controller_apps.specs.Firewall.{at_features, at_policy, denial, guarding, wall_of, IsWall};
+ghost use Rattle.app_messages.specs.Extending.{Extends};
+ghost use Rattle.controller_apps.specs.Firewall.{at_features, at_policy, denial, guarding, has_joined, joined_before, wall_of, IsWall, Wall};
+ghost use Rattle.of10_match.specs.declared.matches.Match.{Match};
 ghost use Rattle.of10_match.specs.Match.{IsValidMatch};
 ghost use Rattle.of10_messages.specs.Valid.{IsValidMessage};
 
@@ -72,54 +73,127 @@ impl Firewall {
         self.made.as_slice()
     }
 
-    /// What holds of every firewall: a fact for the proof.
-    fn parts(&self)
+    /// What holds of every firewall: a fact for proofs.
+    pub fn parts(&self)
         ensures { IsWall self.now }
     {
         let _made = &self.made;
     }
 
-    /// A switch tells its features. After want of memory it has not joined, and some of the entries may have been sent.
-    fn join(&mut self, s: u16, out: &mut Outbox) -> Result<(), AllocError>
-        ensures state { OnOk result (self.new ≡ (at_features s self.old).state) }
-        ensures sent { OnOk result (out.new ≡ out.old ++ (at_features s self.old).sent) }
-        ensures err { OnErr result (self.new ≡ self.old) }
+    /// Whether a switch that tells its features is sent all rules.
+    fn sends_to(&self, s: u16) -> bool
+        ensures { result ≡ (self.now.reinstall || not (has_joined self.now s)) }
+    {
+        self.reinstall || !self.joined.contains(&s)
+    }
+
+    /// Sends a switch that tells its features all rules, unless it has them. After want of memory some of them may have been
+    /// sent.
+    fn send_all(&self, s: u16, out: &mut Outbox) -> Result<(), AllocError>
+        ensures sent { OnOk result (out.new ≡ out.old ++ (at_features s self.now).sent) }
         ensures unsent { OnErr result (Extends out.old out.new) }
     {
-        if !self.reinstall && self.joined.contains(&s) {
+        if !self.sends_to(s) {
             return Ok(());
         }
         send_rules(self.alloc, s, self.made.as_slice(), out)?;
-        send_rules(self.alloc, s, self.policies.as_slice(), out)?;
-        self.joined.insert(s)?;
+        send_rules(self.alloc, s, self.policies.as_slice(), out)
+    }
+
+    /// A switch tells its features. After want of memory it has not joined.
+    fn join(&mut self, s: u16) -> Result<(), AllocError>
+        ensures state { OnOk result (self.new ≡ (at_features s self.old).state) }
+        ensures err { OnErr result (self.new ≡ self.old) }
+    {
+        if self.sends_to(s) {
+            self.joined.insert(s)?;
+        }
         Ok(())
     }
 
-    /// A policy becomes the last rule. After want of memory it is none, and some of the entries may have been sent.
-    fn deny(&mut self, deny: Match, out: &mut Outbox) -> Result<(), AllocError>
+    /// A policy becomes the last rule. After want of memory it is none.
+    fn deny(&mut self, deny: Match) -> Result<(), AllocError>
         requires { IsValidMatch deny }
         ensures state { OnOk result (self.new ≡ (at_policy deny self.old).state) }
-        ensures sent { OnOk result (out.new ≡ out.old ++ (at_policy deny self.old).sent) }
         ensures err { OnErr result (self.new ≡ self.old) }
-        ensures unsent { OnErr result (Extends out.old out.new) }
     {
-        send_to_all(self.alloc, &self.joined, deny, out)?;
         self.policies.push(deny)
     }
 
-    /// Hears an item. After want of memory some of the messages may have been sent.
-    fn hear(&mut self, item: &UpItem, out: &mut Outbox) -> Result<(), AllocError>
+    /// A switch that joined last has not joined, unless it had before.
+    fn leave(&mut self, s: u16, before: bool)
+        ensures { (wall : Wall) → IsWall wall → self.old ≡ (at_features s wall).state → before ≡ has_joined wall s → self.new ≡ wall }
+    {
+        if !before {
+            self.joined.remove(&s);
+        }
+    }
+
+    /// The policy that came last is none.
+    fn allow(&mut self)
+        ensures { (wall : Wall) (deny : Match) → self.old ≡ (at_policy deny wall).state → self.new ≡ wall }
+    {
+        let fewer = self.policies.len().saturating_sub(1);
+        self.policies.truncate(fewer);
+    }
+
+    /// Sends what answers an item, and changes nothing of itself. After want of memory some of it may have been sent.
+    pub fn send(&self, item: &UpItem, out: &mut Outbox) -> Result<(), AllocError>
+        requires { IsValidUpItem item.now }
+        ensures sent { OnOk result (out.new ≡ out.old ++ (guarding self.now item.now).sent) }
+        ensures unsent { OnErr result (Extends out.old out.new) }
+    {
+        match item {
+            UpItem::FromSwitch(s, Message::FeaturesReply { .. }) => self.send_all(*s, out),
+            UpItem::Policy(deny) => send_to_all(self.alloc, &self.joined, *deny, out),
+            UpItem::FromSwitch(..) | UpItem::Gone(_) => Ok(()),
+        }
+    }
+
+    /// Comes to the state after an item. After want of memory it is as it was.
+    pub fn hear(&mut self, item: &UpItem) -> Result<(), AllocError>
+        requires { IsValidUpItem item.now }
+        ensures state { OnOk result (self.new ≡ (guarding self.old item.now).state) }
+        ensures err { OnErr result (self.new ≡ self.old) }
+    {
+        match item {
+            UpItem::FromSwitch(s, Message::FeaturesReply { .. }) => self.join(*s),
+            UpItem::Policy(deny) => self.deny(*deny),
+            UpItem::FromSwitch(..) | UpItem::Gone(_) => Ok(()),
+        }
+    }
+
+    /// Whether the switch that an item is from has joined, for `undo`.
+    pub fn joined_before(&self, item: &UpItem) -> bool
+        ensures { result ≡ joined_before self.now item.now }
+    {
+        match item {
+            UpItem::FromSwitch(s, _) => self.joined.contains(s),
+            UpItem::Gone(_) | UpItem::Policy(_) => false,
+        }
+    }
+
+    /// Goes back to the state before an item that it heard last, with whether its switch had joined before. It takes no memory.
+    pub fn undo(&mut self, item: &UpItem, before: bool)
+        ensures { (wall : Wall) → IsWall wall → self.old ≡ (guarding wall item.now).state → before ≡ joined_before wall item.now → self.new ≡ wall }
+    {
+        match item {
+            UpItem::FromSwitch(s, Message::FeaturesReply { .. }) => self.leave(*s, before),
+            UpItem::Policy(_) => self.allow(),
+            UpItem::FromSwitch(..) | UpItem::Gone(_) => {}
+        }
+    }
+
+    /// Sends what answers an item and hears it. After want of memory some of the messages may have been sent.
+    fn take(&mut self, item: &UpItem, out: &mut Outbox) -> Result<(), AllocError>
         requires { IsValidUpItem item.now }
         ensures state { OnOk result (self.new ≡ (guarding self.old item.now).state) }
         ensures sent { OnOk result (out.new ≡ out.old ++ (guarding self.old item.now).sent) }
         ensures err { OnErr result (self.new ≡ self.old) }
         ensures unsent { OnErr result (Extends out.old out.new) }
     {
-        match item {
-            UpItem::FromSwitch(s, Message::FeaturesReply { .. }) => self.join(*s, out),
-            UpItem::Policy(deny) => self.deny(*deny, out),
-            UpItem::FromSwitch(..) | UpItem::Gone(_) => Ok(()),
-        }
+        self.send(item, out)?;
+        self.hear(item)
     }
 }
 
@@ -138,7 +212,7 @@ impl Controller for Firewall {
     fn handle(&mut self, item: &UpItem, out: &mut Outbox) -> Result<(), AllocError> {
         self.parts();
         let before = out.list().len();
-        match self.hear(item, out) {
+        match self.take(item, out) {
             Ok(()) => Ok(()),
             Err(error) => {
                 out.truncate(before);

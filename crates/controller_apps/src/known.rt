@@ -1,7 +1,7 @@
 //! The port at which each address was seen last, switch by switch.
-ghost use Rattle.std.specs.Prelude.{◌≡◌, IfOk, OnOk, OnErr};
+ghost use Rattle.std.specs.Prelude.{◌≡◌, ℕ, IfOk, OnOk, OnErr};
 ghost use Rattle.std.specs.FinMap as map;
-ghost use Rattle.controller_apps.specs.Ports.{no_ports, port_at, with_port, without_switch};
+ghost use Rattle.controller_apps.specs.Ports.{AtSwitch, Ports, entry_at, no_ports, port_at, with_port, without_switch};
 
 use std::alloc::{AllocError, Global};
 use std::collections::BTreeMap;
@@ -47,6 +47,22 @@ impl SwitchPorts {
         self.ports.insert(address, port)?;
         Ok(())
     }
+
+    /// The address has the port again that it had before it was put, or none. It takes no memory.
+    fn put_back(&mut self, address: u64, before: Option<u16>)
+        ensures { (there : AtSwitch) (port : ℕ) → self.old ≡ map.insert there address port → before ≡ map.get there address → self.new ≡ there }
+    {
+        match before {
+            None => {
+                self.ports.remove(&address);
+            }
+            Some(port) => {
+                if let Some(now) = self.ports.get_mut(&address) {
+                    *now = port;
+                }
+            }
+        }
+    }
 }
 
 impl Clone for SwitchPorts {
@@ -91,6 +107,14 @@ impl KnownPorts {
         self.switches.get(&s)?.port(address)
     }
 
+    /// What is known of the switch, if anything is: the port at which the address was seen there, if it was.
+    pub fn entry(&self, s: u16, address: u64) -> Option<Option<u16>>
+        ensures { result ≡ entry_at s address self.now }
+    {
+        let there = self.switches.get(&s)?;
+        Some(there.port(address))
+    }
+
     /// The address was seen at a port of the switch.
     pub fn learn(
         &mut self,
@@ -109,6 +133,20 @@ impl KnownPorts {
         there.put(address, port)?;
         self.switches.insert(s, there)?;
         Ok(())
+    }
+
+    /// What was learnt last of the address is known no more, but what was known before. It takes no memory.
+    pub fn put_back(&mut self, s: u16, address: u64, before: Option<Option<u16>>)
+        ensures { (ports : Ports) (port : ℕ) → self.old ≡ with_port s address port ports → before ≡ entry_at s address ports → self.new ≡ ports }
+    {
+        match before {
+            None => self.forget(s),
+            Some(before) => {
+                if let Some(there) = self.switches.get_mut(&s) {
+                    there.put_back(address, before);
+                }
+            }
+        }
     }
 
     /// All that is known at the switch is forgotten.

@@ -1,8 +1,9 @@
 //! A learning switch: it sends a packet to the port at which its destination was seen, and to all ports where it was not.
-ghost use Rattle.std.specs.Prelude.{◌≡◌, ◌≤◌, ◌++◌, length, OnOk, OnErr};
-ghost use Rattle.controller_apps.specs.Extending.{Extends};
+ghost use Rattle.std.specs.Prelude.{◌≡◌, ◌≤◌, ◌++◌, length, true, false, IsOk, OnOk, OnErr};
+ghost use Rattle.app_messages.specs.Extending.{Extends};
 ghost use Rattle.app_messages.specs.Sent.{header_of};
-ghost use Rattle.controller_apps.specs.Learning.{at_packet, learning, learnt, port_of, unlearnt};
+ghost use Rattle.controller_api.specs.Reaction.{IsValidUpItem};
+ghost use Rattle.controller_apps.specs.Learning.{Learner, at_packet, is_packet, known_before, learning, learnt, port_of, unlearnt};
 
 use crate::known::KnownPorts;
 use app_messages::{Seen, add};
@@ -80,25 +81,38 @@ impl Learning {
         self.known.port(s, header.dl_dst)
     }
 
-    /// Answers a packet and learns where its source is. After want of memory nothing was learnt, and some of the answer may have
-    /// been sent.
-    fn packet(&mut self, s: u16, seen: &Seen<'_>, out: &mut Outbox) -> Result<(), AllocError>
-        ensures state { OnOk result (self.new ≡ (at_packet s (record { in_port = seen.now.in_port; content = seen.now.content.now }) self.old).state) }
-        ensures sent { OnOk result (out.new ≡ out.old ++ (at_packet s (record { in_port = seen.now.in_port; content = seen.now.content.now }) self.old).sent) }
+    /// Learns where the source of a packet is. After want of memory nothing was learnt.
+    fn learn(&mut self, s: u16, seen: &Seen<'_>) -> Result<(), AllocError>
+        ensures state { OnOk result (self.new ≡ learnt s (record { in_port = seen.now.in_port; content = seen.now.content.now }) self.old) }
         ensures err { OnErr result (self.new ≡ self.old) }
-        ensures unsent { OnErr result (Extends out.old out.new) }
     {
-        self.answer(s, seen, out)?;
         self.known
             .learn(self.alloc, s, seen.header().dl_src, seen.in_port)
     }
 
-    /// Hears an item. After want of memory some of the messages may have been sent.
-    fn hear(&mut self, item: &UpItem, out: &mut Outbox) -> Result<(), AllocError>
-        ensures state { OnOk result (self.new ≡ (learning self.old item.now).state) }
-        ensures sent { OnOk result (out.new ≡ out.old ++ (learning self.old item.now).sent) }
-        ensures err { OnErr result (self.new ≡ self.old) }
+    /// Sends what answers an item, and changes nothing of itself. After want of memory some of it may have been sent.
+    pub fn send(&self, item: &UpItem, out: &mut Outbox) -> Result<(), AllocError>
+        requires { IsValidUpItem item.now }
+        ensures sent { OnOk result (out.new ≡ out.old ++ (learning self.now item.now).sent) }
         ensures unsent { OnErr result (Extends out.old out.new) }
+    {
+        let UpItem::FromSwitch(s, message) = item else {
+            return Ok(());
+        };
+        if let Message::FeaturesReply { .. } = message {
+            return Ok(());
+        }
+        match Seen::of(message) {
+            Some(seen) => self.answer(*s, &seen, out),
+            None => Ok(()),
+        }
+    }
+
+    /// Comes to the state after an item. After want of memory it is as it was; only a packet that came up can want any.
+    pub fn hear(&mut self, item: &UpItem) -> Result<(), AllocError>
+        ensures state { OnOk result (self.new ≡ (learning self.old item.now).state) }
+        ensures err { OnErr result (self.new ≡ self.old) }
+        ensures sure { is_packet item.now ≡ false → IsOk result }
     {
         let UpItem::FromSwitch(s, message) = item else {
             return Ok(());
@@ -108,9 +122,45 @@ impl Learning {
             return Ok(());
         }
         match Seen::of(message) {
-            Some(seen) => self.packet(*s, &seen, out),
+            Some(seen) => self.learn(*s, &seen),
             None => Ok(()),
         }
+    }
+
+    /// What is known of the address that an item teaches, for `undo`: `None` where nothing is known at the switch.
+    pub fn known_before(&self, item: &UpItem) -> Option<Option<u16>>
+        ensures { result ≡ known_before self.now item.now }
+    {
+        let UpItem::FromSwitch(s, message) = item else {
+            return None;
+        };
+        let seen = Seen::of(message)?;
+        self.known.entry(*s, seen.header().dl_src)
+    }
+
+    /// Goes back to the state before a packet that it heard last, with what was known before. It takes no memory.
+    pub fn undo(&mut self, item: &UpItem, before: Option<Option<u16>>)
+        ensures { (learner : Learner) → is_packet item.now ≡ true → self.old ≡ (learning learner item.now).state
+            → before ≡ known_before learner item.now → self.new ≡ learner }
+    {
+        let UpItem::FromSwitch(s, message) = item else {
+            return;
+        };
+        if let Some(seen) = Seen::of(message) {
+            self.known.put_back(*s, seen.header().dl_src, before);
+        }
+    }
+
+    /// Sends what answers an item and hears it. After want of memory some of the messages may have been sent.
+    fn take(&mut self, item: &UpItem, out: &mut Outbox) -> Result<(), AllocError>
+        requires { IsValidUpItem item.now }
+        ensures state { OnOk result (self.new ≡ (learning self.old item.now).state) }
+        ensures sent { OnOk result (out.new ≡ out.old ++ (learning self.old item.now).sent) }
+        ensures err { OnErr result (self.new ≡ self.old) }
+        ensures unsent { OnErr result (Extends out.old out.new) }
+    {
+        self.send(item, out)?;
+        self.hear(item)
     }
 }
 
@@ -127,7 +177,7 @@ impl Controller for Learning {
 
     fn handle(&mut self, item: &UpItem, out: &mut Outbox) -> Result<(), AllocError> {
         let before = out.list().len();
-        match self.hear(item, out) {
+        match self.take(item, out) {
             Ok(()) => Ok(()),
             Err(error) => {
                 out.truncate(before);

@@ -169,3 +169,23 @@ fn a_firewall_guards(rt: HostRuntime) -> Result<(), Fail> {
     assert!(rt; !wall.reinstall() && wall.fresh()?.rules().len() == 1);
     Ok(())
 }
+
+#[test]
+fn what_was_heard_is_undone(rt: HostRuntime) -> Result<(), Fail> {
+    let row = row_of(false, (1, 1, 2), true, 0, None);
+    let up = UpItem::FromSwitch(4, packet(rt.alloc(), &row)?);
+    let mut app = Learning::new(rt.alloc(), 9);
+    let before = app.known_before(&up);
+    app.hear(&up)?;
+    assert_eq!(rt; app.known_before(&up), Some(Some(1)));
+    app.undo(&up, before);
+    assert_eq!(rt; app.known_before(&up), None);
+    let mut wall = Firewall::new(rt.alloc(), true, Listed::new(rt.alloc()));
+    let joins = UpItem::FromSwitch(7, features(rt.alloc()));
+    let had_joined = wall.joined_before(&joins);
+    wall.hear(&joins)?;
+    assert!(rt; wall.joined_before(&joins));
+    wall.undo(&joins, had_joined);
+    assert!(rt; !wall.joined_before(&joins));
+    Ok(())
+}

@@ -1,5 +1,5 @@
 use Rattle.std.proofs.Common.{◌≡◌, ◌++◌, map}
-use Rattle.controller_apps.specs.Extending.{Extends}
+use Rattle.app_messages.specs.Extending.{Extends}
 use Rattle.controller_apps.specs.Firewall.{denial}
 use Rattle.controller_apps.proofs.firewall.send_to_all.Given as goal
 
