@@ -1,0 +1,9 @@
+pub mod Few
+pub mod Levels
+pub mod Members
+pub mod Named
+pub mod Numbered
+pub mod Places
+pub mod Shortest
+pub mod Tellings
+pub mod Wires
