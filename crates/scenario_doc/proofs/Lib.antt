@@ -1,0 +1,20 @@
+mod Columns
+pub mod Fit
+pub mod FitMatch
+pub mod FitNetwork
+pub mod FitPresets
+pub mod FitReading
+pub mod FitScript
+pub mod NarrowNames
+pub mod SeenPlaces
+pub mod Walks
+pub mod WrittenDrafts
+pub mod WrittenFlows
+pub mod WrittenForms
+pub mod WrittenMembers
+pub mod WrittenNetwork
+pub mod WrittenPackets
+pub mod WrittenScenarios
+pub mod WrittenScript
+pub mod WrittenSwitches
+pub mod WrittenTexts

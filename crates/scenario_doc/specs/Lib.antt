@@ -1,0 +1,14 @@
+pub mod Applications
+pub mod Draft
+pub mod Fit
+pub mod Flows
+pub mod Network
+pub mod Packets
+pub mod Plans
+pub mod Ranges
+pub mod Rules
+pub mod Scenario
+pub mod Script
+pub mod Taken
+pub mod Written
+pub mod WrittenScenario
