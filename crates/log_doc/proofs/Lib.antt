@@ -1,1 +1,3 @@
-pub mod Lists
+pub mod WrittenEntries
+pub mod WrittenItems
+pub mod WrittenLogs

@@ -1,5 +1,4 @@
-pub mod Json
-pub mod Idle
+pub mod Entries
+pub mod Items
 pub mod Log
-pub mod Scenario
-pub mod Misread
+pub mod Written

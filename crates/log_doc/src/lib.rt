@@ -1,14 +1,17 @@
-//! Log documents: what a run's log in JSON stands for.
+//! Log documents: a scenario, and the history of one run of it.
 #![tactic(auto)]
 
 mod entry;
-mod idle;
-mod json;
+mod items;
 mod log;
-mod scenario;
+mod rules;
+mod write_entry;
+mod write_items;
+mod write_whole;
 
-pub use idle::Idle;
-pub use log::{DocFail, Log, Path, Scenario, read_log};
+pub use log::{Log, read_log};
+pub use scenario_doc::{DocFail, Path, Scenario};
+pub use write_whole::write_log;
 
 #[cfg(test)]
 mod tests;

@@ -1,38 +1,23 @@
 //! The log document.
-ghost use Rattle.std.specs.Prelude.{◌≡◌, ◌≤◌, ◌↔◌, All, IsTrue, IfOk, IfErr};
+ghost use Rattle.std.specs.Prelude.{◌≡◌, ◌≤◌, ◌<◌, ◌^◌, All, IfErr, IfOk, IfSome, Ok, codes, length};
 ghost use Rattle.serde_json.specs.View.{view};
-ghost use Rattle.log_doc.specs.Misread.{Gives};
-ghost use Rattle.log_doc.specs.Log.{log_of, IsValidLog, GivesLog, RefusesBy, IsLogText, IsRefused};
+ghost use Rattle.machine_setup.specs.Setup.{IsValidSetup};
+ghost use Rattle.message_pools.specs.Item.{IsValidItem};
+ghost use Rattle.doc_forms.specs.Forms.{list};
+ghost use Rattle.doc_forms.specs.Reading.{Gives};
+ghost use Rattle.doc_forms.specs.Texts.{IsRefused, IsText};
+ghost use Rattle.scenario_doc.specs.Rules.{each};
+ghost use Rattle.log_doc.specs.Entries.{entry_of, entry_rules};
+ghost use Rattle.log_doc.specs.Log.{log_of};
 
-use crate::entry::{EntryForm, end_of};
-use crate::idle::Idle;
-use crate::json::{Misread, is_object_of, member_list, u32_of};
-use crate::scenario::setup_of;
-use event_machine::{Entry, Trace};
+use crate::entry::{EndForm, EntryForm};
+use crate::rules::EntryRules;
+use doc_forms::{DocFail, Form, below, field, keyed, list, read_document};
+use event_machine::{Entries, Trace};
 use listed::Listed;
-use machine_setup::Setup;
+use scenario_doc::{DraftForm, Scenario, VersionForm, each};
 use serde_json::Value;
-use std::alloc::{AllocError, Global};
-use thiserror::Error;
-
-/// Where in a document a rule is broken: `/`, and the keys and indices from the root, joined by `/`.
-pub type Path = Listed<u8>;
-
-/// Why a document was not read.
-#[derive(Debug, Drop, Error)]
-pub enum DocFail {
-    /// The document breaks a rule, which is told by its number, at a path.
-    #[error("rule {number} is broken")]
-    Refused { number: u8, path: Path },
-    #[error("out of memory")]
-    OutOfMemory,
-}
-
-/// What a scenario document says.
-#[derive(Debug, Drop)]
-pub struct Scenario {
-    pub setup: Setup<Idle>,
-}
+use std::alloc::Global;
 
 /// A scenario, and the history of one run of it.
 #[derive(Debug, Drop)]
@@ -41,75 +26,55 @@ pub struct Log {
     pub trace: Trace,
 }
 
-/// The log that a document of these bytes stands for. The whole document is refused by rule 1 where it is not one JSON
-/// value, and by rule 24 where it is no log of the form that is read so far: hosts, links and switches without
-/// controllers, and a script that injects packets.
+const KEYS: [&str; 4] = ["end", "entries", "scenario", "sts"];
+
+/// The entries, at most 16,384.
+struct EntriesForm;
+
+impl Form for EntriesForm {
+    type Read = Entries;
+
+    ghost form = { list entry_of 16384 };
+
+    ghost holds = { λ entries. All (λ entry. IfSome entry.item IsValidItem) entries };
+
+    fn read(alloc: Global, value: &Value) -> Result<Entries, DocFail> {
+        list::<EntryForm>(alloc, value, 16_384)
+    }
+}
+
+/// A log.
+struct LogForm;
+
+impl Form for LogForm {
+    type Read = Log;
+
+    ghost form = { log_of };
+
+    ghost holds = { λ log. IsValidSetup log.scenario.setup × All (λ entry. IfSome entry.item IsValidItem) log.trace.entries };
+
+    fn read(alloc: Global, value: &Value) -> Result<Log, DocFail> {
+        keyed(alloc, value, &KEYS)?;
+        let end = field::<EndForm>(alloc, value, "end")?;
+        let entries = field::<EntriesForm>(alloc, value, "entries")?;
+        let draft = field::<DraftForm>(alloc, value, "scenario")?;
+        field::<VersionForm>(alloc, value, "sts")?;
+        let kept = each::<EntryRules>(alloc, &draft.limits.workers, entries.as_slice());
+        below(alloc, "entries", kept)?;
+        below(alloc, "scenario", draft.check(alloc))?;
+        Ok(Log {
+            scenario: draft.made(alloc)?,
+            trace: Trace { entries, end },
+        })
+    }
+}
+
+/// The log that a document of these bytes stands for, or the first rule that it breaks, and where.
 pub fn read_log(alloc: Global, bytes: &[u8]) -> Result<Log, DocFail>
-    ensures read { IfOk result (λ log. IsLogText bytes.now log) }
-    ensures refused { IfErr result (λ why. IsRefused bytes.now why) }
+    ensures read { IfOk result (λ log. IsText log_of bytes.now log) }
+    ensures valid { IfOk result (λ log. IsValidSetup log.scenario.setup) }
+    ensures items { IfOk result (λ log. All (λ entry. IfSome entry.item IsValidItem) log.trace.entries) }
+    ensures refused { IfErr result (λ why. IsRefused log_of bytes.now why) }
 {
-    let value = match Value::from_slice(alloc, bytes) {
-        Ok(value) => value,
-        Err(error) if error.is_memory() => return Err(DocFail::OutOfMemory),
-        Err(_) => return Err(refused(alloc, 1)),
-    };
-    match valid_log(alloc, &value) {
-        Ok(log) => Ok(log),
-        Err(Misread::Form) => Err(refused(alloc, 24)),
-        Err(Misread::Memory) => Err(DocFail::OutOfMemory),
-    }
-}
-
-// The refusal of the whole document by a rule.
-fn refused(alloc: Global, rule: u8) -> DocFail
-    ensures { RefusesBy rule result }
-{
-    match b"/".to_vec(alloc) {
-        Ok(root) => DocFail::Refused {
-            number: rule,
-            path: Listed::of(root),
-        },
-        Err(_) => DocFail::OutOfMemory,
-    }
-}
-
-fn valid_log(alloc: Global, value: &Value) -> Result<Log, Misread>
-    ensures { GivesLog (view value.now) result }
-{
-    let log = log_of(alloc, value)?;
-    if is_valid(alloc, &log)? {
-        Ok(log)
-    } else {
-        Err(Misread::Form)
-    }
-}
-
-fn log_of(alloc: Global, value: &Value) -> Result<Log, Misread>
-    ensures { Gives result (log_of (view value.now)) }
-{
-    if !is_object_of(4, value) {
-        return Err(Misread::Form);
-    }
-    u32_of(value, "sts", 1, 1).ok_or(Misread::Form)?;
-    let setup = value.get("scenario").ok_or(Misread::Form)?;
-    let setup = setup_of(alloc, setup)?;
-    let entries = member_list::<EntryForm>(alloc, value, "entries", 16_384)?;
-    let end = value.get("end").and_then(end_of).ok_or(Misread::Form)?;
-    Ok(Log {
-        scenario: Scenario { setup },
-        trace: Trace { entries, end },
-    })
-}
-
-fn is_valid(alloc: Global, log: &Log) -> Result<bool, AllocError>
-    ensures { IfOk result (λ valid. IsTrue valid ↔ IsValidLog log.now) }
-{
-    let workers = log.scenario.setup.limits.workers;
-    Ok(are_within(workers, log.trace.entries.as_slice()) && log.scenario.setup.is_valid(alloc)?)
-}
-
-fn are_within(workers: u32, entries: &[Entry]) -> bool
-    ensures { IsTrue result ↔ All (λ entry. entry.worker ≤ workers) entries.now }
-{
-    entries.iter().all(|entry| entry.worker <= workers)
+    read_document::<LogForm>(alloc, bytes)
 }

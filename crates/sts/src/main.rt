@@ -1,11 +1,14 @@
 //! The program `sts`: the top call over the arguments, standard input and standard output.
 #![tactic(auto)]
 
+mod edge;
+
+use crate::edge::{exit_code, help, without_words};
 use std::io::ErrorKind;
 use std::process::ExitCode;
 use std::rt::Env;
 use std::{env, io};
-use sts_cli::{Status, sts};
+use sts_cli::sts;
 use sts_io::{StdSink, StdSource};
 
 fn main(rt: HostRuntime) -> ExitCode {
@@ -15,13 +18,12 @@ fn main(rt: HostRuntime) -> ExitCode {
             let mut sink = StdSink::new(io::writer(&rt));
             sts(&rt, rt.alloc(), words.as_slice(), &mut source, &mut sink)
         }
-        Err(error) if error.kind() == ErrorKind::OutOfMemory => Status::OUT_OF_MEMORY,
-        Err(_) => Status::WORDS,
+        Err(error) => without_words(error.kind() == ErrorKind::OutOfMemory),
     };
-    if let Some(hint) = hint(status) {
-        let _ = eprintln!(rt; "sts: {hint}");
+    if let Some(line) = help(status) {
+        let _ = eprintln!(rt; "sts: {line}");
     }
-    ExitCode::from(status.code)
+    exit_code(status)
 }
 
 // The words after the program's name.
@@ -31,15 +33,4 @@ fn words(rt: &(impl Env + AllocGlobal)) -> io::Result<Vec<String>> {
         words.push(word)?;
     }
     Ok(words)
-}
-
-// What a status means that writes nothing.
-fn hint(status: Status) -> Option<&'static str> {
-    match status {
-        Status::WORDS => Some("usage: sts replay < LOG"),
-        Status::READ_FAULT => Some("reading standard input failed"),
-        Status::OUT_OF_MEMORY => Some("out of memory"),
-        Status::TOO_LONG => Some("the input is longer than 16,777,216 bytes"),
-        _ => None,
-    }
 }

@@ -1,5 +1,5 @@
 -- Bytes have one answer.
-use Rattle.std.proofs.Common.{◌≡◌, ℕ, ◌<◌, List, length, slice_get, Some, refl, sym, ◌∙◌, ap, subst, inl, inr}
+use Rattle.std.proofs.Common.{◌≡◌, ℕ, ◌<◌, List, length, slice_get, Some, Ok, Err, refl, sym, ◌∙◌, ap, subst, inl, inr}
 use Rattle.std.proofs.lemmas.Option.{slice_get_within}
 use Rattle.std.proofs.lemmas.Bool.{cases_order}
 use Rattle.controller_api.specs.Reaction.{Reaction}
@@ -11,30 +11,47 @@ use Rattle.event_machine.specs.declared.legal.LogNo.TheVariants.{NotLegal, Worke
 use Rattle.event_machine.specs.declared.trace.Entry.{Entry}
 use Rattle.event_machine.specs.declared.trace.Trace.{Trace}
 use Rattle.event_machine.specs.Legal.{IsLegalIn, IsSoundTo, IsLegalRun, IsWrong, IsFirstWrong, IsWrongEntry, earlier_of, world_before}
-use Rattle.log_doc.specs.Idle.{as_it_is, ignores}
+use Rattle.controller_host.specs.Hosting.{hosting, starting}
+use Rattle.doc_forms.specs.Texts.{IsRefused, IsText, rooted}
+use Rattle.doc_forms.specs.declared.fail.DocFail.TheVariants.{Refused}
 use Rattle.log_doc.specs.declared.log.Log.{Log}
-use Rattle.log_doc.specs.declared.log.DocFail.TheVariants.{Refused}
-use Rattle.log_doc.specs.Log.{log_of, IsLogText, IsRefused}
+use Rattle.log_doc.specs.Log.{log_of}
 use Rattle.sts_cli.specs.Lines.{replay_text, refused_line, wrong_line}
 use Rattle.sts_cli.specs.Answer.{IsAnswer, IsReplay, IsRefusal, IsIllegal}
 
 -- the bytes are one log at most
-one_log : (bytes : List ℕ) (l m : Log) → IsLogText bytes l → IsLogText bytes m → l ≡ m
+one_log : (bytes : List ℕ) (l m : Log) → IsText log_of bytes l → IsText log_of bytes m → l ≡ m
 one_log bytes l m one other =
     let a = one.1.1 in let b = other.1.1 in
     let same : one.0 ≡ other.0 = cc in
-    let read : log_of other.0 ≡ Some l = subst (λ v. log_of v ≡ Some l) same one.2.0 in
-    let again = other.2.0 in cc
+    let read : log_of other.0 ≡ Ok l = subst (λ v. log_of v ≡ Ok l) same one.2 in
+    let again = other.2 in cc
 
 -- a log is not refused
-log_or_refused : (bytes : List ℕ) (log : Log) (number : ℕ) (path : List ℕ) → IsLogText bytes log → IsRefused bytes (Refused number path) → ⊥
-log_or_refused bytes log number path read refused = elim refused.1 [ inl h ↦ h.1 read.0 read.1 | inr h ↦ h.1.1 log read ]
+log_or_refused : (bytes : List ℕ) (log : Log) (number : ℕ) (path : List ℕ) → IsText log_of bytes log → IsRefused log_of bytes (Refused number path) → ⊥
+log_or_refused bytes log number path read refused = elim refused [
+  | inl h ↦ h.2 read.0 read.1
+  | inr h ↦
+      let a = read.1.1 in let b = h.2.1 in
+      let same : read.0 ≡ h.0 = cc in
+      let there : log_of h.0 ≡ Ok log = subst (λ v. log_of v ≡ Ok log) same read.2 in
+      let broken = h.3 in cc
+]
 
--- bytes are refused by one rule, at one place
-one_rule : (bytes : List ℕ) (n m : ℕ) (p q : List ℕ) → IsRefused bytes (Refused n p) → IsRefused bytes (Refused m q) → n ≡ m
-one_rule bytes n m p q one other = elim one.1 [
-  | inl a ↦ elim other.1 [ inl b ↦ a.0 ∙ sym b.0 | inr b ↦ absurd (a.1 b.1.0.0 b.1.0.1) ]
-  | inr a ↦ elim other.1 [ inl b ↦ absurd (b.1 a.1.0.0 a.1.0.1) | inr b ↦ a.0 ∙ sym b.0 ]
+-- bytes are refused by one rule
+one_rule : (bytes : List ℕ) (n m : ℕ) (p q : List ℕ) → IsRefused log_of bytes (Refused n p) → IsRefused log_of bytes (Refused m q) → (n ≡ m) × (p ≡ q)
+one_rule bytes n m p q one other = elim one [
+  | inl a ↦ elim other [ inl b ↦ (a.0 ∙ sym b.0, a.1 ∙ sym b.1) | inr b ↦ absurd (a.2 b.0 b.2) ]
+  | inr a ↦ elim other [
+    | inl b ↦ absurd (b.2 a.0 a.2)
+    | inr b ↦
+        let x = a.2.1 in let y = b.2.1 in
+        let same : a.0 ≡ b.0 = cc in
+        let there : log_of b.0 ≡ Err (Refused n a.1) = subst (λ v. log_of v ≡ Err (Refused n a.1)) same a.3 in
+        let broken = b.3 in
+        let inner : a.1 ≡ b.1 = cc in
+        (cc, a.4 ∙ ap rooted inner ∙ sym b.4)
+  ]
 ]
 
 -- it is one entry at one place
@@ -125,25 +142,26 @@ abbrev Same : ℕ → ℕ → List ℕ → List ℕ → Type 0
 Same code other text more = (code ≡ other) × (text ≡ more)
 
 one_replay : (bytes text more : List ℕ) → IsReplay bytes text → IsReplay bytes more → text ≡ more
-one_replay bytes text more a b = a.3 ∙ ap (λ (log : Log). replay_text log.trace) (one_log bytes a.0 b.0 a.1 b.1) ∙ sym b.3
+one_replay bytes text more a b = a.3 ∙ ap replay_text (one_log bytes a.0 b.0 a.1 b.1) ∙ sym b.3
 
 one_refusal : (bytes text more : List ℕ) → IsRefusal bytes text → IsRefusal bytes more → text ≡ more
 one_refusal bytes text more a b =
-    let number : a.0 ≡ b.0 = one_rule bytes a.0 b.0 a.1 b.1 a.2 b.2 in
-    let path : a.1 ≡ b.1 = a.2.0 ∙ sym b.2.0 in
+    let one = one_rule bytes a.0 b.0 a.1 b.1 a.2 b.2 in
+    let number = one.0 in
+    let path = one.1 in
     a.3 ∙ ap (λ n. refused_line n a.1) number ∙ ap (λ p. refused_line b.0 p) path ∙ sym b.3
 
 one_illegal : (bytes text more : List ℕ) → IsIllegal bytes text → IsIllegal bytes more → text ≡ more
 one_illegal bytes text more a b =
     let log : b.0 ≡ a.0 = one_log bytes b.0 a.0 b.2 a.2 in
-    let wrong = subst (λ (l : Log). IsWrong ignores as_it_is l.scenario.setup l.trace b.1) log b.3 in
-    a.5 ∙ ap wrong_line (one_wrong ignores as_it_is a.0.scenario.setup a.0.trace a.1 b.1 a.3 wrong a.4 b.4) ∙ sym b.5
+    let wrong = subst (λ (l : Log). IsWrong hosting starting l.scenario.setup l.trace b.1) log b.3 in
+    a.5 ∙ ap wrong_line (one_wrong hosting starting a.0.scenario.setup a.0.trace a.1 b.1 a.3 wrong a.4 b.4) ∙ sym b.5
 
 replay_or_illegal : (bytes text more : List ℕ) → IsReplay bytes text → IsIllegal bytes more → ⊥
 replay_or_illegal bytes text more a b =
     let log : b.0 ≡ a.0 = one_log bytes b.0 a.0 b.2 a.1 in
-    let wrong = subst (λ (l : Log). IsWrong ignores as_it_is l.scenario.setup l.trace b.1) log b.3 in
-    legal_or_wrong ignores as_it_is a.0.scenario.setup a.0.trace b.1 a.2 wrong b.4
+    let wrong = subst (λ (l : Log). IsWrong hosting starting l.scenario.setup l.trace b.1) log b.3 in
+    legal_or_wrong hosting starting a.0.scenario.setup a.0.trace b.1 a.2 wrong b.4
 
 pub one_answer : (bytes : List ℕ) (code other : ℕ) (text more : List ℕ) → IsAnswer bytes code text → IsAnswer bytes other more → (code ≡ other) × (text ≡ more)
 one_answer bytes code other text more one two = elim one [

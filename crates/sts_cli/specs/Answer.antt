@@ -5,10 +5,11 @@ use Rattle.std.specs.Io.KnownBytes.{IsAtEnd, Appends}
 use Rattle.event_machine.specs.declared.legal.LogNo.{LogNo}
 use Rattle.event_machine.specs.declared.legal.LogNo.TheVariants.{OutOfMemory}
 use Rattle.event_machine.specs.Legal.{IsLegalRun, IsWrong}
-use Rattle.log_doc.specs.Idle.{as_it_is, ignores}
-use Rattle.log_doc.specs.declared.log.DocFail.TheVariants.{Refused}
+use Rattle.controller_host.specs.Hosting.{hosting, starting}
+use Rattle.doc_forms.specs.Texts.{IsRefused, IsText}
+use Rattle.doc_forms.specs.declared.fail.DocFail.TheVariants.{Refused}
 use Rattle.log_doc.specs.declared.log.Log.{Log}
-use Rattle.log_doc.specs.Log.{IsLogText, IsRefused}
+use Rattle.log_doc.specs.Log.{log_of}
 use Rattle.sts_cli.specs.Lines.{replay_text, refused_line, wrong_line}
 
 -- the words are the one form that is built: `replay`
@@ -17,15 +18,15 @@ IsForm words = map string_bytes words ≡ codes "replay" ∷ []
 
 -- the bytes are a log that is a legal run of its scenario, and the text is its replay
 abbrev pub IsReplay : List ℕ → List ℕ → Type 0
-IsReplay bytes text = (log : Log) × IsLogText bytes log × IsLegalRun ignores as_it_is log.scenario.setup log.trace × (text ≡ replay_text log.trace)
+IsReplay bytes text = (log : Log) × IsText log_of bytes log × IsLegalRun hosting starting log.scenario.setup log.trace × (text ≡ replay_text log)
 
 -- the bytes are no document that is read, and the text says which rule is broken, and where
 abbrev pub IsRefusal : List ℕ → List ℕ → Type 0
-IsRefusal bytes text = (number : ℕ) × (path : List ℕ) × IsRefused bytes (Refused number path) × (text ≡ refused_line number path)
+IsRefusal bytes text = (number : ℕ) × (path : List ℕ) × IsRefused log_of bytes (Refused number path) × (text ≡ refused_line number path)
 
 -- the bytes are a log that is no legal run of its scenario, and the text says what is wrong
 abbrev pub IsIllegal : List ℕ → List ℕ → Type 0
-IsIllegal bytes text = (log : Log) × (why : LogNo) × IsLogText bytes log × IsWrong ignores as_it_is log.scenario.setup log.trace why
+IsIllegal bytes text = (log : Log) × (why : LogNo) × IsText log_of bytes log × IsWrong hosting starting log.scenario.setup log.trace why
     × (why ≢ OutOfMemory) × (text ≡ wrong_line why)
 
 -- what is answered to the bytes: status 0 with the replay, 3 with the refusal, 4 with what is not legal
@@ -37,8 +38,7 @@ IsAnswer bytes code text = ((code ≡ 0) × IsReplay bytes text) ⊎ (((code ≡
 abbrev pub IsInput : Option (List ℕ) → Option (List ℕ) → List ℕ → Type 0
 IsInput old new bytes = IfSome old (λ all. bytes ≡ all) × IsAtEnd new × (length bytes ≤ 16777216)
 
--- The source was read to its end, the text that answers the bytes was begun, and a part of it was taken that is not the
--- whole.
+-- The source was read to its end, and of the text that answers the bytes a part was taken, which may be empty and is not the whole.
 abbrev pub IsCutOff : Option (List ℕ) → Option (List ℕ) → Option (List ℕ) → Option (List ℕ) → Type 0
 IsCutOff left_old left_new taken_old taken_new = (bytes : List ℕ) × (code : ℕ) × (text : List ℕ) × (gone : ℕ)
     × IsInput left_old left_new bytes × IsAnswer bytes code text × (gone < length text) × Appends taken_old taken_new (take gone text)
@@ -50,8 +50,8 @@ IsAnswered left_old left_new taken_old taken_new code = (bytes : List ℕ) × (t
 
 -- a log is judged: its replay where it is a legal run, else what is wrong
 abbrev pub IsJudged : Log → ℕ → List ℕ → Type 0
-IsJudged log code text = ((code ≡ 0) × IsLegalRun ignores as_it_is log.scenario.setup log.trace × (text ≡ replay_text log.trace))
-    ⊎ ((code ≡ 4) × ((why : LogNo) × IsWrong ignores as_it_is log.scenario.setup log.trace why × (why ≢ OutOfMemory) × (text ≡ wrong_line why)))
+IsJudged log code text = ((code ≡ 0) × IsLegalRun hosting starting log.scenario.setup log.trace × (text ≡ replay_text log))
+    ⊎ ((code ≡ 4) × ((why : LogNo) × IsWrong hosting starting log.scenario.setup log.trace why × (why ≢ OutOfMemory) × (text ≡ wrong_line why)))
 
 -- the statuses whose text is written whole
 abbrev pub IsTold : ℕ → Type 0

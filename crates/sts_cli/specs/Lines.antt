@@ -7,7 +7,8 @@ use Rattle.event_world.specs.declared.event.Event.TheVariants.{In, Ctl, Pkt, Not
 use Rattle.event_machine.specs.declared.legal.LogNo.{LogNo}
 use Rattle.event_machine.specs.declared.legal.LogNo.TheVariants.{NotLegal, WorkerOrder, EndWrong, OutOfMemory}
 use Rattle.event_machine.specs.declared.trace.Entry.{Entry}
-use Rattle.event_machine.specs.declared.trace.Trace.{Trace}
+use Rattle.topology.specs.declared.invariant.Invariant.{Invariant}
+use Rattle.log_doc.specs.declared.log.Log.{Log}
 
 -- the end of a line
 abbrev pub line_feed : List ℕ
@@ -38,11 +39,16 @@ head_line count = codes "replay " ++ (decimal count ++ (codes " steps" ++ line_f
 abbrev pub step_lines : List Entry → List ℕ
 step_lines entries = flat_map (λ step. step_line step.0 step.1.event) (enumerate_from 0 entries)
 
+-- how the network stands at the end: it is not judged where something must hold of it
+abbrev pub end_line : List Invariant → List ℕ
+end_line [] = codes "end holds" ++ line_feed
+end_line (invariant ∷ rest) = codes "end unjudged" ++ line_feed
+
 -- The replay that keeps all inputs of a legal run takes its events, each as it stands in the log: none is extra, none is
--- absent. Where there are no invariants the end holds.
-abbrev pub replay_text : Trace → List ℕ
-replay_text trace = head_line (length trace.entries) ++ (step_lines trace.entries
-    ++ (codes "absent 0" ++ (line_feed ++ (codes "end holds" ++ line_feed))))
+-- absent.
+abbrev pub replay_text : Log → List ℕ
+replay_text log = head_line (length log.trace.entries) ++ (step_lines log.trace.entries
+    ++ (codes "absent 0" ++ (line_feed ++ end_line log.scenario.invariants)))
 
 -- a document that is refused: the rule's number, and where it is broken
 abbrev pub refused_line : ℕ → List ℕ → List ℕ

@@ -38,7 +38,7 @@ fn judged(alloc: Global, log: &Log) -> Result<Answer, AllocError>
     match check_legal(alloc, &log.scenario.setup, &log.trace) {
         Ok(_) => Ok(Answer {
             status: Status::DONE,
-            text: replay_text(alloc, &log.trace)?.into_bytes(),
+            text: replay_text(alloc, log)?.into_bytes(),
         }),
         Err(LogNo::OutOfMemory) => Err(AllocError),
         Err(why) => Ok(Answer {

@@ -1,22 +1,35 @@
 //! The lines that the program writes.
 ghost use Rattle.std.specs.Prelude.{◌≡◌, ◌≢◌, ◌++◌, IfOk, OnOk, string_bytes};
 ghost use Rattle.event_machine.specs.declared.legal.LogNo.TheVariants.{OutOfMemory};
-ghost use Rattle.sts_cli.specs.Lines.{event_text, step_line, step_lines, head_line, replay_text, refused_line, wrong_line};
+ghost use Rattle.sts_cli.specs.Lines.{end_line, event_text, step_line, step_lines, head_line, replay_text, refused_line, wrong_line};
 
-use event_machine::{Entry, Event, LogNo, Trace};
+use event_machine::{Entry, Event, LogNo};
+use log_doc::Log;
 use std::alloc::{AllocError, Global};
+use topology::Invariant;
 
 /// The replay of a legal run that keeps all inputs.
-pub(crate) fn replay_text(alloc: Global, trace: &Trace) -> Result<String, AllocError>
-    ensures { IfOk result (λ text. string_bytes text ≡ replay_text trace.now) }
+pub(crate) fn replay_text(alloc: Global, log: &Log) -> Result<String, AllocError>
+    ensures { IfOk result (λ text. string_bytes text ≡ replay_text log.now) }
 {
     let mut text = String::new(alloc);
-    let steps = trace.entries.len();
+    let steps = log.trace.entries.len();
     writeln!(text, "replay {steps} steps")?;
-    push_steps(&mut text, trace.entries.as_slice())?;
+    push_steps(&mut text, log.trace.entries.as_slice())?;
     writeln!(text, "absent 0")?;
-    writeln!(text, "end holds")?;
+    push_end(&mut text, log.scenario.invariants.as_slice())?;
     Ok(text)
+}
+
+// How the network stands at the end.
+fn push_end(text: &mut String, invariants: &[Invariant]) -> Result<(), AllocError>
+    ensures { OnOk result (string_bytes text.new ≡ string_bytes text.old ++ end_line invariants.now) }
+{
+    if invariants.is_empty() {
+        writeln!(text, "end holds")
+    } else {
+        writeln!(text, "end unjudged")
+    }
 }
 
 fn push_steps(text: &mut String, entries: &[Entry]) -> Result<(), AllocError>

@@ -1,6 +1,10 @@
 //! The worked cases of the top call, over a source and a sink in memory.
 use super::sts;
+use doc_forms::DocFail;
+use event_machine::{LogNo, StepNo};
+use listed::Listed;
 use std::alloc::{AllocError, Global};
+use std::fmt::Display;
 use std::test::Fail;
 use sts_io::{MemSink, MemSource};
 
@@ -9,6 +13,10 @@ const LOG: &str =
     "{\"end\":\"quiet\",\"entries\":[[0,0,\"in\",0],[0,1,\"pkt\",0,1,0,\"000000000001000000000002ffff00080000060000000a0000001403e800500000000700\"]],\"scenario\":{\"budget\":0,\"controllers\":[],\"hosts\":[[0,1,1],[0,2,2]],\"invariants\":[],\"links\":[],\"max_events\":100,\"patience\":0,\"script\":[[0,\"inject\",0,[1,2,65535,0,2048,0,6,10,20,1000,80],7]],\"sts\":1,\"switches\":[[2,null,[]]],\"workers\":1},\"sts\":1}";
 
 const REPLAY: &str = "replay 2 steps\n0 input 0\n1 expected 1 pkt 0 1 0\nabsent 0\nend holds\n";
+
+// The same where the scenario has an invariant.
+const UNJUDGED: &str =
+    "replay 2 steps\n0 input 0\n1 expected 1 pkt 0 1 0\nabsent 0\nend unjudged\n";
 
 const LIMIT: usize = 16_777_216;
 
@@ -50,10 +58,16 @@ fn documents_and_their_answers(rt: HostRuntime) -> Result<(), Fail> {
             "not legal at 1\n",
         ),
         (
-            "\"controllers\":[]",
-            "\"controllers\":[[]]",
+            "[0,2,2]",
+            "[0,2,1]",
             3,
-            "refused 24 at /\n",
+            "refused 14 at /scenario/hosts/1/2\n",
+        ),
+        (
+            "\"invariants\":[]",
+            "\"invariants\":[[\"loop\"]]",
+            0,
+            UNJUDGED,
         ),
         ("\"sts\":1}", "", 3, "refused 1 at /\n"),
     ] {
@@ -114,6 +128,47 @@ fn the_longest_document(rt: HostRuntime) -> Result<(), Fail> {
         let status = sts(&rt, rt.alloc(), words.as_slice(), &mut source, &mut sink);
         assert_eq!(rt; status.code, code, "at {len}");
         assert_eq!(rt; sink.taken(), text.as_bytes(), "at {len}");
+    }
+    Ok(())
+}
+
+// The text of an error.
+fn told<E: Display>(alloc: Global, error: &E) -> Result<String, AllocError> {
+    format!(in alloc; "{error}")
+}
+
+#[test]
+fn texts_of_errors(rt: HostRuntime) -> Result<(), Fail> {
+    let order = LogNo::WorkerOrder {
+        at: 4,
+        want: 1,
+        has: 2,
+    };
+    let refused = DocFail::Refused {
+        number: 9,
+        path: Listed::new(rt.alloc()),
+    };
+    for (text, wanted) in [
+        (
+            told(rt.alloc(), &LogNo::NotLegal { at: 3 })?,
+            "entry 3 is not legal",
+        ),
+        (
+            told(rt.alloc(), &order)?,
+            "entry 4 has number 2, and its worker's next is 1",
+        ),
+        (
+            told(rt.alloc(), &LogNo::EndWrong)?,
+            "the trace does not end as it says",
+        ),
+        (
+            told(rt.alloc(), &StepNo::NotEnabled { head: None })?,
+            "the event is not enabled",
+        ),
+        (told(rt.alloc(), &refused)?, "rule 9 is broken"),
+        (told(rt.alloc(), &DocFail::OutOfMemory)?, "out of memory"),
+    ] {
+        assert_eq!(rt; text.as_str(), wanted);
     }
     Ok(())
 }
