@@ -2,7 +2,7 @@
 ghost use Rattle.std.specs.Prelude.{◌≡◌, ◌++◌, IfOk, OnOk, OnErr};
 ghost use Rattle.app_messages.specs.Extending.{Extends};
 ghost use Rattle.controller_api.specs.Reaction.{AreValidMessages};
-ghost use Rattle.controller_host.specs.Numbering.{adds, cookie_after, next_xid, numbered, with_cookie, with_numbers, with_xid};
+ghost use Rattle.controller_host.specs.Numbering.{adds, cookie_after, next_xid, numbered, with_cookie, with_numbers};
 ghost use Rattle.of10_messages.specs.Valid.{IsValidMessage};
 
 use controller_api::{Outbox, SentMessages};
@@ -29,7 +29,7 @@ impl Numbers {
         let xid = self.xid;
         self.xid = xid.wrapping_add(1);
         let added = adds(&message);
-        let mut numbered = with_xid(message, xid);
+        let mut numbered = message.with_xid(xid);
         if added {
             numbered = with_cookie(numbered, self.cookie);
             self.cookie = self.cookie.wrapping_add(1);
@@ -65,110 +65,6 @@ fn adds(message: &Message) -> bool
     match message {
         Message::FlowMod { mods, .. } => mods.command == OFPFC_ADD,
         _ => false,
-    }
-}
-
-/// A message with another xid.
-fn with_xid(message: Message, xid: u32) -> Message
-    requires { IsValidMessage message }
-    ensures value { result ≡ with_xid xid message }
-    ensures valid { IsValidMessage result }
-{
-    lengths_of_messages();
-    match message {
-        Message::Hello { .. } => Message::Hello { xid },
-        Message::Error {
-            kind,
-            code,
-            content,
-            ..
-        } => Message::Error {
-            xid,
-            kind,
-            code,
-            content,
-        },
-        Message::EchoRequest { content, .. } => Message::EchoRequest { xid, content },
-        Message::EchoReply { content, .. } => Message::EchoReply { xid, content },
-        Message::FeaturesRequest { .. } => Message::FeaturesRequest { xid },
-        Message::FeaturesReply { features, .. } => Message::FeaturesReply { xid, features },
-        Message::GetConfigRequest { .. } => Message::GetConfigRequest { xid },
-        Message::GetConfigReply {
-            flags,
-            miss_send_len,
-            ..
-        } => Message::GetConfigReply {
-            xid,
-            flags,
-            miss_send_len,
-        },
-        Message::SetConfig {
-            flags,
-            miss_send_len,
-            ..
-        } => Message::SetConfig {
-            xid,
-            flags,
-            miss_send_len,
-        },
-        Message::PacketIn {
-            buffer_id,
-            total_len,
-            in_port,
-            reason,
-            content,
-            ..
-        } => Message::PacketIn {
-            xid,
-            buffer_id,
-            total_len,
-            in_port,
-            reason,
-            content,
-        },
-        Message::FlowRemoved {
-            matches,
-            cookie,
-            priority,
-            reason,
-            duration_sec,
-            duration_nsec,
-            idle_timeout,
-            packet_count,
-            byte_count,
-            ..
-        } => Message::FlowRemoved {
-            xid,
-            matches,
-            cookie,
-            priority,
-            reason,
-            duration_sec,
-            duration_nsec,
-            idle_timeout,
-            packet_count,
-            byte_count,
-        },
-        Message::PortStatus { reason, port, .. } => Message::PortStatus { xid, reason, port },
-        Message::PacketOut {
-            buffer_id,
-            in_port,
-            actions_len,
-            actions,
-            content,
-            ..
-        } => Message::PacketOut {
-            xid,
-            buffer_id,
-            in_port,
-            actions_len,
-            actions,
-            content,
-        },
-        Message::FlowMod { mods, .. } => Message::FlowMod { xid, mods },
-        Message::BarrierRequest { .. } => Message::BarrierRequest { xid },
-        Message::BarrierReply { .. } => Message::BarrierReply { xid },
-        Message::Other { kind, body, .. } => Message::Other { xid, kind, body },
     }
 }
 

@@ -159,6 +159,27 @@ message_xid (message.BarrierRequest xid) = xid
 message_xid (message.BarrierReply xid) = xid
 message_xid (message.Other xid kind body) = xid
 
+-- the message with another xid
+abbrev pub with_xid : ℕ → Message → Message
+with_xid new (message.Hello xid) = message.Hello new
+with_xid new (message.Error xid kind code content) = message.Error new kind code content
+with_xid new (message.EchoRequest xid content) = message.EchoRequest new content
+with_xid new (message.EchoReply xid content) = message.EchoReply new content
+with_xid new (message.FeaturesRequest xid) = message.FeaturesRequest new
+with_xid new (message.FeaturesReply xid features) = message.FeaturesReply new features
+with_xid new (message.GetConfigRequest xid) = message.GetConfigRequest new
+with_xid new (message.GetConfigReply xid flags miss_send_len) = message.GetConfigReply new flags miss_send_len
+with_xid new (message.SetConfig xid flags miss_send_len) = message.SetConfig new flags miss_send_len
+with_xid new (message.PacketIn xid buffer_id total_len in_port reason content) = message.PacketIn new buffer_id total_len in_port reason content
+with_xid new (message.FlowRemoved xid matches cookie priority reason duration_sec duration_nsec idle_timeout packet_count byte_count) =
+    message.FlowRemoved new matches cookie priority reason duration_sec duration_nsec idle_timeout packet_count byte_count
+with_xid new (message.PortStatus xid reason port) = message.PortStatus new reason port
+with_xid new (message.PacketOut xid buffer_id in_port actions_len actions content) = message.PacketOut new buffer_id in_port actions_len actions content
+with_xid new (message.FlowMod xid mods) = message.FlowMod new mods
+with_xid new (message.BarrierRequest xid) = message.BarrierRequest new
+with_xid new (message.BarrierReply xid) = message.BarrierReply new
+with_xid new (message.Other xid kind body) = message.Other new kind body
+
 -- what follows the header: ofp_error_msg (5.4.4), ofp_switch_config (5.3.2), ofp_packet_in (5.4.1),
 -- ofp_flow_removed (5.4.2), ofp_port_status (5.4.3), ofp_packet_out (5.3.6), and those above
 abbrev pub body_bytes : Message → List ℕ

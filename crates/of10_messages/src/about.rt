@@ -1,9 +1,11 @@
 //! What every message has: a type and a number.
 
 ghost use Rattle.std.specs.Prelude.{◌≡◌};
-ghost use Rattle.of10_messages.specs.Wire.{message_kind, message_xid};
+ghost use Rattle.of10_messages.specs.Valid.{IsValidMessage};
+ghost use Rattle.of10_messages.specs.Wire.{message_kind, message_xid, with_xid};
 
 use crate::kinds::*;
+use crate::laws::lengths_of_messages;
 use crate::message::Message;
 
 impl Message {
@@ -55,5 +57,34 @@ impl Message {
             | Message::BarrierReply { xid }
             | Message::Other { xid, .. } => *xid,
         }
+    }
+
+    /// The same message under another number.
+    pub fn with_xid(mut self, new: u32) -> Message
+        requires { IsValidMessage self }
+        ensures value { result ≡ with_xid new self }
+        ensures valid { IsValidMessage result }
+    {
+        lengths_of_messages();
+        match &mut self {
+            Message::Hello { xid } => *xid = new,
+            Message::Error { xid, .. } => *xid = new,
+            Message::EchoRequest { xid, .. } => *xid = new,
+            Message::EchoReply { xid, .. } => *xid = new,
+            Message::FeaturesRequest { xid } => *xid = new,
+            Message::FeaturesReply { xid, .. } => *xid = new,
+            Message::GetConfigRequest { xid } => *xid = new,
+            Message::GetConfigReply { xid, .. } => *xid = new,
+            Message::SetConfig { xid, .. } => *xid = new,
+            Message::PacketIn { xid, .. } => *xid = new,
+            Message::FlowRemoved { xid, .. } => *xid = new,
+            Message::PortStatus { xid, .. } => *xid = new,
+            Message::PacketOut { xid, .. } => *xid = new,
+            Message::FlowMod { xid, .. } => *xid = new,
+            Message::BarrierRequest { xid } => *xid = new,
+            Message::BarrierReply { xid } => *xid = new,
+            Message::Other { xid, .. } => *xid = new,
+        }
+        self
     }
 }
