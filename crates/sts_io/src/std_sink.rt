@@ -1,10 +1,11 @@
 //! A sink over any writer of std.
-ghost use Rattle.std.specs.Prelude.{◌≡◌, ℕ, ◌<◌, length, IfOk, OnErr};
+ghost use Rattle.std.specs.Prelude.{◌≡◌, ℕ, ◌<◌, ◌⊎◌, length, Ok, IfOk, OnErr, IsErr};
 ghost use Rattle.std.specs.Io.{WritesAtMost};
 ghost use Rattle.std.specs.Io.KnownBytes.{WriteAppends};
 ghost use Rattle.sts_io.specs.Causes.{HasCause, counted};
 
 use crate::{Failed, Sink};
+use std::io;
 use std::io::Write;
 use std::marker::Model;
 
@@ -45,12 +46,22 @@ impl<W: Write> Sink for StdSink<W> {
         ensures cause { HasCause self.old.faults self.new.faults result }
         ensures raised { OnErr result (self.new.faults ≡ counted self.old.faults) }
     {
-        match self.writer.write(piece) {
-            Ok(count) if count > 0 || piece.is_empty() => Ok(count),
-            _ => {
-                self.faults = self.faults.saturating_add(1);
-                Err(Failed)
-            }
+        write_answer(self.writer.write(piece), piece, &mut self.faults)
+    }
+}
+
+// What the writer answered, as the sink's answer. An error is counted, and a write that took nothing of a piece
+// that has a byte, and nothing else is.
+fn write_answer(given: io::Result<usize>, piece: &[u8], faults: &mut u64) -> Result<usize, Failed>
+    ensures ok { IfOk given (λ count. (0 < count) ⊎ (length piece.now ≡ 0) → (result ≡ Ok count) × (faults.new ≡ faults.old)) }
+    ensures nothing { IfOk given (λ count. count ≡ 0 → 0 < length piece.now → IsErr result × (faults.new ≡ counted faults.old)) }
+    ensures err { OnErr given (IsErr result × (faults.new ≡ counted faults.old)) }
+{
+    match given {
+        Ok(count) if count > 0 || piece.is_empty() => Ok(count),
+        _ => {
+            *faults = faults.saturating_add(1);
+            Err(Failed)
         }
     }
 }

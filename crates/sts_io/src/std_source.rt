@@ -1,10 +1,11 @@
 //! A source over any reader of std.
-ghost use Rattle.std.specs.Prelude.{◌≡◌, ℕ, OnErr};
+ghost use Rattle.std.specs.Prelude.{◌≡◌, ℕ, Ok, IfOk, OnErr, IsErr};
 ghost use Rattle.std.specs.Io.{ReadsAtMost};
 ghost use Rattle.std.specs.Io.KnownBytes.{ReadConsumes};
 ghost use Rattle.sts_io.specs.Causes.{HasCause, counted};
 
 use crate::{Failed, Source};
+use std::io;
 use std::io::Read;
 use std::marker::Model;
 
@@ -43,12 +44,20 @@ impl<R: Read> Source for StdSource<R> {
         ensures cause { HasCause self.old.faults self.new.faults result }
         ensures raised { OnErr result (self.new.faults ≡ counted self.old.faults) }
     {
-        match self.reader.read(buf) {
-            Ok(count) => Ok(count),
-            Err(_) => {
-                self.faults = self.faults.saturating_add(1);
-                Err(Failed)
-            }
+        read_answer(self.reader.read(buf), &mut self.faults)
+    }
+}
+
+// What the reader answered, as the source's answer. An error is counted, and nothing else is: the end is no fault.
+fn read_answer(given: io::Result<usize>, faults: &mut u64) -> Result<usize, Failed>
+    ensures ok { IfOk given (λ count. (result ≡ Ok count) × (faults.new ≡ faults.old)) }
+    ensures err { OnErr given (IsErr result × (faults.new ≡ counted faults.old)) }
+{
+    match given {
+        Ok(count) => Ok(count),
+        Err(_) => {
+            *faults = faults.saturating_add(1);
+            Err(Failed)
         }
     }
 }

@@ -1,5 +1,5 @@
 -- Each kind of atomic step keeps the shared history.
-use Rattle.std.proofs.Common.{◌≡◌, ◌≢◌, ℕ, zero, suc, ◌+◌, ◌*◌, ◌%◌, ◌<◌, ◌≤◌, eqb, Bool, true, false, true≢false, ◌⊎◌, ⊎_elim, inl, inr, List, [], ◌∷◌, ◌++◌, length, get_or, set, Option, Some, slice_get, refl, ap, sym, ◌∙◌, subst, arith, length-append, eq-eqb, ne_eqb, le_refl, lt_of_not-le}
+use Rattle.std.proofs.Common.{◌≡◌, ◌≢◌, ℕ, zero, suc, ◌+◌, ◌*◌, ◌%◌, ◌<◌, ◌≤◌, eqb, Bool, true, false, true≢false, ◌⊎◌, ⊎_elim, inl, inr, List, [], ◌∷◌, ◌++◌, length, get_or, set, Option, Some, refl, ap, sym, ◌∙◌, subst, arith, length-append, eq-eqb, ne_eqb, le_refl, lt_of_not-le}
 use Rattle.std.specs.Prelude.{MatchBool}
 use Rattle.std.specs.List.{concat}
 use mathlib.Core.List.{IsPrefix}
@@ -13,12 +13,12 @@ use Rattle.atomic_table.specs.Table.{State, Me, Act, step, keeps, takes, gives, 
 use Rattle.atomic_table.proofs.Lists.{at_set, set_else, at_longer}
 use Rattle.turn_book.specs.declared.view.View.{View}
 use Rattle.turn_book.specs.Places.{times, once_between, but_last, last_alone}
-use Rattle.turn_book.specs.History.{marks_of, places_of, IsMarked, Sits, Seated, Free, Taken, Kept}
+use Rattle.turn_book.specs.History.{marks_of, places_of, IsMarked, IsAway, Sits, Seated, Free, Taken, Kept}
 use Rattle.turn_book.specs.Steps.{opener, having_met, won, left, committed, parent, child, both, joined_away, noted, ended, Learns, Looks, Notes, Wins, Misses, Tries, Leaves, Commits, Whole}
 use Rattle.turn_book.specs.Words.{LastMarkIsFree}
 use Rattle.turn_book.proofs.Sums.{times-numbers_from, length-numbers_from, between_empty, between_in, halves, length-last_alone}
-use Rattle.turn_book.proofs.Begins.{prefix_self, prefix_trans, prefix_get, prefix_length, prefix_whole, get_below}
-use Rattle.turn_book.proofs.Seats.{set_each, snoc_each, one_at, same_seated, idle_seated, all_alone, few_marks, few_places, all_places, grown_seated, split_seated, joined_seated}
+use Rattle.turn_book.proofs.Begins.{prefix_self, prefix_trans, prefix_length, prefix_whole, get_below}
+use Rattle.turn_book.proofs.Seats.{set_each, snoc_each, one_at, same_seated, idle_seated, all_alone, few_marks, few_places, all_places, live_marked, grown_seated, split_seated, joined_seated}
 
 -- a word is even and odd at once
 not_both : (n m : ℕ) → 2 * n + 1 ≡ m → m % 2 ≡ 0 → ⊥
@@ -116,10 +116,10 @@ module _ {B E S : Type 0} (history : B → List E) (subject_of : B → S) (mark 
 
   -- a step of a seat that changes no word, no mark and no own place
   unmoved : (s : St) (r : Rule s) (id : ℕ) (v w : V) → get_elem? s.views id ≡ some v → v.holds ≡ false → w.holds ≡ false → marks_of w ≡ marks_of v → places_of w ≡ places_of v
-      → (w.live ≡ true → Sits mark start subject r.log w) → (length w.marks ≡ 64 → word s ≡ w.last) → Rule record { words = s.words; homes = s.homes; views = set s.views id w }
-  unmoved s r id v w at idle still same_marks same_places sits last = record {
+      → w.live ≡ true → Sits mark start subject r.log w → (length w.marks ≡ 64 → word s ≡ w.last) → Rule record { words = s.words; homes = s.homes; views = set s.views id w }
+  unmoved s r id v w at idle still same_marks same_places live sits last = record {
     log = r.log;
-    seated = same_seated mark start subject r.log s.views id v w r.seated at same_marks same_places sits;
+    seated = same_seated mark start subject r.log s.views id v w r.seated at same_marks same_places live sits;
     turn = turn_set r.log s id v w r.turn at idle still;
     known = set_each (λ j u. u.live ≡ true → length u.marks ≡ 64 → word s ≡ u.last) s.views id w (λ _. last) (λ j u _ e. r.known j u e);
   }
@@ -138,14 +138,17 @@ module _ {B E S : Type 0} (history : B → List E) (subject_of : B → S) (mark 
   all_free s log seated id v at live idle all (inl f) = f
   all_free s log seated id v at live idle all (inr t) = absurd (all_alone mark start subject log s.views id v seated at live all t.holder t.view (holder_other log s t id v at idle) t.there t.live)
 
-  learns : (s : St) (r : Rule s) (id : ℕ) (v : V) → get_elem? s.views id ≡ some v → v.live ≡ true → v.holds ≡ false → Learns mark v (word s)
+  learns : (s : St) (r : Rule s) (id : ℕ) (v : V) → get_elem? s.views id ≡ some v → v.live ≡ true → v.holds ≡ false → Learns v (word s)
   learns s r id v at live idle = record {
     all = λ all. (r.known id v at live all, (let f = all_free s r.log r.seated id v at live idle all r.turn in ap (λ (l : List ℕ). get_or l 0 0 % 2) f.word ∙ even_twice (length r.log)));
     few = few_marks mark start subject r.log s.views id v r.seated at live;
     room = let long = word_long s r.log r.turn in let few = few_places mark start subject r.log s.views id v r.seated at live in let sits = r.seated.each id v at live in let same = sits.same_start in omega arith;
     told = (r.seated.each id v at live).told_begins;
-    marked = λ p e le h. let k = r.seated.each id v at live in let same = k.same_start in k.own_marked p e (omega arith) (prefix_get v.seen r.log p e k.seen_begins h);
   }
+
+  -- what a live seat knows after its step
+  set_marked : (log : List E) (s : St) (id : ℕ) (v w : V) → get_elem? s.views id ≡ some v → w.live ≡ true → Seated mark start subject log (set s.views id w) → IsMarked mark w
+  set_marked log s id v w at live seated = live_marked mark start subject log (set s.views id w) id w seated (set_there s.views id v w at) live
 
   sits_looked : (s : St) (r : Rule s) (id : ℕ) (v : V) (found : ℕ) → get_elem? s.views id ≡ some v → v.live ≡ true → Sits mark start subject r.log (having_met found v)
   sits_looked s r id v found at live = let k = r.seated.each id v at live in record {
@@ -174,22 +177,16 @@ module _ {B E S : Type 0} (history : B → List E) (subject_of : B → S) (mark 
   }
 
   pub looks : (slots id : ℕ) (me : M) → me.0.live ≡ true → me.0.holds ≡ false → Allows Rule slots id me 0 (λ n. n) (Looks mark (step slots 0 0 0 none) me)
-  looks slots id me live idle s r _ at _ = let w : V = having_met (word s) me.0 in (
-    w,
-    keeps,
-    tt,
-    loaded s id me.1 w (unmoved s r id me.0 w at idle idle refl refl (λ _. sits_looked s r id me.0 (word s) at live) (λ _. refl)),
-    (refl, learns s r id me.0 at live idle),
-  )
+  looks slots id me live idle s r _ at _ =
+      let w : V = having_met (word s) me.0 in
+      let now = unmoved s r id me.0 w at idle idle refl refl live (sits_looked s r id me.0 (word s) at live) (λ _. refl) in
+      (w, keeps, tt, loaded s id me.1 w now, (refl, learns s r id me.0 at live idle, set_marked now.log s id me.0 w at live now.seated))
 
   pub notes : (slots id : ℕ) (me : M) → me.0.live ≡ true → me.0.holds ≡ false → Allows Rule slots id me 0 (λ n. n) (Notes mark (step slots 0 0 0 none) me)
-  notes slots id me live idle s r _ at _ = let w : V = noted (word s) me.0 in (
-    w,
-    keeps,
-    tt,
-    loaded s id me.1 w (unmoved s r id me.0 w at idle idle refl refl (λ _. sits_noted s r id me.0 (word s) at live) (λ _. refl)),
-    (refl, learns s r id me.0 at live idle),
-  )
+  notes slots id me live idle s r _ at _ =
+      let w : V = noted (word s) me.0 in
+      let now = unmoved s r id me.0 w at idle idle refl refl live (sits_noted s r id me.0 (word s) at live) (λ _. refl) in
+      (w, keeps, tt, loaded s id me.1 w now, (refl, learns s r id me.0 at live idle, set_marked now.log s id me.0 w at live now.seated))
 
   -- what the seats with all shares know of a new word, where a live seat makes the step
   known_set : (s : St) (r : Rule s) (id : ℕ) (v w : V) (n : ℕ) → get_elem? s.views id ≡ some v → v.live ≡ true → n ≡ w.last → Known n (set s.views id w)
@@ -218,6 +215,7 @@ module _ {B E S : Type 0} (history : B → List E) (subject_of : B → S) (mark 
       let n : word s ≡ 2 * length r.log = ap (λ (l : List ℕ). get_or l 0 0) f.word in
       let k = r.seated.each id v at live in
       let sits : Sits mark start subject r.log w = subst (λ (l : List E). Sits mark start subject r.log (won (word s) l v)) (sym f.stands) (won_sits s r id v (word s) at live) in
+      let seated = same_seated mark start subject r.log s.views id v w r.seated at refl refl live sits in
       let few = few_places mark start subject r.log s.views id v r.seated at live in
       let odd : new ≡ 2 * length r.log + 1 = omega arith in
       let count = ap length f.stands in
@@ -227,7 +225,7 @@ module _ {B E S : Type 0} (history : B → List E) (subject_of : B → S) (mark 
         ap (λ (hs : List (mathlib.Core.Option.Option (Option B))). get_elem? hs 0) f.home,
         record {
           log = r.log;
-          seated = same_seated mark start subject r.log s.views id v w r.seated at refl refl (λ _. sits);
+          seated = seated;
           turn = inr record {
             holder = id;
             view = w;
@@ -247,7 +245,7 @@ module _ {B E S : Type 0} (history : B → List E) (subject_of : B → S) (mark 
           word = omega arith;
           about = k.same_subject ∙ ap Some (sym f.about);
           begins = subst (λ (l : List E). IsPrefix v.seen l) (sym f.stands) k.seen_begins;
-          marked = λ p e le h. k.own_marked p e (omega arith) (ap (λ (l : List E). slice_get l p) (sym f.stands) ∙ h);
+          marked = set_marked r.log s id v w at live seated;
           room = omega arith;
         },
       )
@@ -266,14 +264,15 @@ module _ {B E S : Type 0} (history : B → List E) (subject_of : B → S) (mark 
         subst (λ (b : Bool). MatchBool b (Wins history subject_of mark me.0 (word s) (t.0, carried_after me.1 t.1)) (Misses mark me (word s) (t.0, carried_after me.1 t.1)))
             (sym (eq-eqb (word s) old hit)) t.4,
       ))
-      (λ miss. let w : V = having_met (word s) me.0 in (
+      (λ miss.
+      let w : V = having_met (word s) me.0 in
+      let now = unmoved s r id me.0 w at idle idle refl refl live (sits_looked s r id me.0 (word s) at live) (λ _. refl) in (
         w,
         keeps,
         tt,
-        subst (λ (b : Bool). Rule (stepped s 0 (either b new (word s)) id me.1 w keeps)) (sym (ne_eqb (word s) old miss))
-            (loaded s id me.1 w (unmoved s r id me.0 w at idle idle refl refl (λ _. sits_looked s r id me.0 (word s) at live) (λ _. refl))),
+        subst (λ (b : Bool). Rule (stepped s 0 (either b new (word s)) id me.1 w keeps)) (sym (ne_eqb (word s) old miss)) (loaded s id me.1 w now),
         subst (λ (b : Bool). MatchBool b (Wins history subject_of mark me.0 (word s) (w, me.1)) (Misses mark me (word s) (w, me.1)))
-            (sym (ne_eqb (word s) old miss)) (refl, learns s r id me.0 at live idle),
+            (sym (ne_eqb (word s) old miss)) (refl, learns s r id me.0 at live idle, set_marked now.log s id me.0 w at live now.seated),
       ))
 
   -- the seat that has the turn met the whole history
@@ -320,17 +319,18 @@ module _ {B E S : Type 0} (history : B → List E) (subject_of : B → S) (mark 
       let w : V = left given v in
       let t = holder_is s r.log id v at holds r.turn in
       let k = r.seated.each id v at live in
+      let seated = same_seated mark start subject r.log s.views id v w r.seated at refl refl live (left_sits r.log v given k) in
       let count = ap length t.1 in (
         w,
         gives,
         tt,
         record {
           log = r.log;
-          seated = same_seated mark start subject r.log s.views id v w r.seated at refl refl (λ _. left_sits r.log v given k);
+          seated = seated;
           turn = inl (free_again s r id me book r.log w given t.0 carried (same ∙ t.1) (subject_is k.same_subject) (omega arith) t.2 refl);
           known = subst (λ (x : ℕ). Known x (set s.views id w)) (sym (given_word s r given t.0)) (known_set s r id v w given at live refl);
         },
-        (ap (λ (cs : List (ℕ × Option B)). (w, rest cs)) carried, λ p e le h. let same_start = k.same_start in k.own_marked p e (omega arith) (prefix_get v.seen r.log p e k.seen_begins h)),
+        (ap (λ (cs : List (ℕ × Option B)). (w, rest cs)) carried, set_marked r.log s id v w at live seated),
       )
     where
       subject_is : me.0.subject ≡ Some subject → subject_of book ≡ subject
@@ -362,8 +362,7 @@ module _ {B E S : Type 0} (history : B → List E) (subject_of : B → S) (mark 
         },
         λ book' carried'. let same : book ≡ book' = one_book (sym carried ∙ carried') in (
           ap (λ (cs : List (ℕ × Option B)). (w, rest cs)) carried ∙ ap (λ (b : B). (committed given (history b) v, [])) same,
-          subst (λ (b : B). IsMarked mark (committed given (history b) v)) same
-              (λ p x le h. let same_start = k.same_start in (grown.each id w (set_there s.views id v w at) live).own_marked p x (omega arith) (ap (λ (l : List E). slice_get l p) (sym now) ∙ h)),
+          set_marked (r.log ++ e ∷ []) s id v w at live grown,
         ),
       )
     where
@@ -403,10 +402,10 @@ module _ {B E S : Type 0} (history : B → List E) (subject_of : B → S) (mark 
   endings id v live idle s r at =
       let w : V = ended v in
       let was : St = record { words = s.words; homes = s.homes; views = set s.views id v } in
-      let r' : Rule was = unmoved s r id v v at idle idle refl refl (r.seated.each id v at) (r.known id v at live) in
+      let r' : Rule was = unmoved s r id v v at idle idle refl refl live (r.seated.each id v at live) (r.known id v at live) in
       record {
         log = r'.log;
-        seated = idle_seated mark start subject r'.log (set s.views id v) w r'.seated refl refl refl;
+        seated = idle_seated mark start subject r'.log (set s.views id v) w r'.seated refl refl refl (λ _ still. absurd (true≢false still));
         turn = turn_snoc r'.log was w r'.turn idle;
         known = snoc_each (λ j u. u.live ≡ true → length u.marks ≡ 64 → word s ≡ u.last) (set s.views id v) w r'.known (λ j never. absurd (true≢false (sym never)));
       }
@@ -523,6 +522,7 @@ module _ {B E S : Type 0} (history : B → List E) (subject_of : B → S) (mark 
             own_ascends = (tt, tt);
             own_marked = λ p e le h. let below = get_below log p e h in absurd (omega arith);
           });
+          away = only (λ u. u.live ≡ false → u.closed ≡ false → IsAway u) (λ gone. absurd (true≢false gone));
         };
         turn = inl record {
           book = book;

@@ -1,5 +1,5 @@
 -- What holds of all seats together stays so at each kind of step.
-use Rattle.std.proofs.Common.{◌≡◌, ◌≢◌, ℕ, ◌+◌, ◌<◌, ◌≤◌, Bool, true, false, true≢false, ◌⊎◌, ⊎_elim, inl, inr, List, [], ◌∷◌, ◌++◌, length, set, Some, slice_get, refl, ap, sym, ◌∙◌, subst, arith, lt_of_not-le, length-append}
+use Rattle.std.proofs.Common.{◌≡◌, ◌≢◌, ℕ, ◌+◌, ◌<◌, ◌≤◌, Bool, true, false, true≢false, ◌⊎◌, ⊎_elim, inl, inr, List, [], ◌∷◌, ◌++◌, length, set, Some, slice_get, refl, ap, sym, ◌∙◌, subst, arith, le_refl, lt_of_not-le, length-append}
 use Rattle.std.specs.List.{concat}
 use Rattle.std.specs.Prelude.{nat_lt, cond, max}
 use Rattle.std.proofs.lemmas.Bool.Decides.{nat_tests}
@@ -11,11 +11,11 @@ use lib.ListN.{get_elem?}
 use Rattle.atomic_table.proofs.Lists.{at_set, at_snoc}
 use Rattle.turn_book.specs.declared.view.View.{View}
 use Rattle.turn_book.specs.Places.{times, once_between, but_last, last_alone}
-use Rattle.turn_book.specs.History.{marks_of, places_of, IsMarked, Sits, Seated}
+use Rattle.turn_book.specs.History.{marks_of, places_of, IsMarked, IsAway, Sits, Seated}
 use Rattle.turn_book.specs.Steps.{opener, committed, parent, child, longer, shorter, both, joined_away}
 use Rattle.turn_book.specs.Words.{LastMarkIsFree}
-use Rattle.turn_book.proofs.Sums.{total_set, total_snoc, total_at, total_two, total_one, times-append, times_here, times_other, concat-append, times-with_place, length-with_place, between_more, between_most, all_ascend_more, all_ascend-append, halves, length-last_alone}
-use Rattle.turn_book.proofs.Begins.{prefix_self, prefix_trans, prefix_shorter, prefix_more, prefix_back, prefix_length, get_below, get_snoc}
+use Rattle.turn_book.proofs.Sums.{total_set, total_snoc, total_at, total_two, total_one, times-append, times_here, times_other, concat-append, times-with_place, length-with_place, between_below, between_more, between_most, all_ascend_more, all_ascend-append, halves, length-last_alone}
+use Rattle.turn_book.proofs.Begins.{prefix_self, prefix_trans, prefix_shorter, prefix_more, prefix_back, prefix_get, prefix_length, get_below, get_snoc}
 
 pub longer_begins : {E : Type 0} (xs ys log : List E) → IsPrefix xs log → IsPrefix ys log → IsPrefix (longer xs ys) log
 longer_begins {E} xs ys log p q = cases (nat_lt (length xs) (length ys))
@@ -72,14 +72,26 @@ module _ {E S : Type 0} where
 
 -- at the opening no entry is past it
 pub opener_marked : {E S : Type 0} (mark : E → ℕ) (log : List E) (subject : S) → IsMarked mark (opener log subject)
-opener_marked mark log subject p e le h = let below = get_below log p e h in absurd (omega arith)
+opener_marked mark log subject = record {
+  owned = λ p e le h. let below = get_below log p e h in absurd (omega arith);
+  opening = le_refl (length log);
+  past = λ p below. refl;
+  within = λ p le. refl;
+  ascends = (tt, tt);
+}
 
 -- a seat that gives its last mark away keeps its own calls
 pub parent_marked : {E S : Type 0} (mark : E → ℕ) (v : View E S) → IsMarked mark v → LastMarkIsFree mark v → IsMarked mark (parent v)
-parent_marked mark v marked free p e le h =
-    let own = marked p e le h in
-    let parts = ap (times (mark e)) (sym (halves v.marks)) ∙ times-append (mark e) (but_last v.marks) (last_alone v.marks) in
-    dite (ℕ_discrete (times p (concat v.own)) 0) (λ none. omega arith) (λ some_times. let none = free p e (omega arith) h in omega arith)
+parent_marked mark v marked free = record {
+  owned = λ p e le h.
+      let own = marked.owned p e le h in
+      let parts = ap (times (mark e)) (sym (halves v.marks)) ∙ times-append (mark e) (but_last v.marks) (last_alone v.marks) in
+      dite (ℕ_discrete (times p (concat v.own)) 0) (λ none. omega arith) (λ some_times. let none = free p e (omega arith) h in omega arith);
+  opening = marked.opening;
+  past = marked.past;
+  within = marked.within;
+  ascends = marked.ascends;
+}
 
 module _ {E S : Type 0} (mark : E → ℕ) (start : ℕ) (subject : S) where
   abbrev V : Type 0
@@ -91,25 +103,37 @@ module _ {E S : Type 0} (mark : E → ℕ) (start : ℕ) (subject : S) where
   abbrev One : List E → V → Type 0
   One = Sits mark start subject
 
+  -- a view that is not live is one of a closed book, or of a seat that was joined away
+  abbrev Away : V → Type 0
+  Away u = u.live ≡ false → u.closed ≡ false → IsAway u
+
+  is_live : {v : V} → v.live ≡ true → Away v
+  is_live live gone = absurd (true≢false (sym live ∙ gone))
+
+  set_away : (views : List V) (id : ℕ) (w : V) → Away w → ((j : ℕ) (u : V) → get_elem? views j ≡ some u → Away u) → (j : ℕ) (u : V) → get_elem? (set views id w) j ≡ some u → Away u
+  set_away views id w mine others = set_each (λ j u. Away u) views id w mine (λ j u _ e. others j u e)
+
   -- a step that changes no mark, no own place and no entry
-  pub same_seated : (log : List E) (views : List V) (id : ℕ) (v w : V) → All log views → get_elem? views id ≡ some v → marks_of w ≡ marks_of v → places_of w ≡ places_of v → (w.live ≡ true → One log w)
+  pub same_seated : (log : List E) (views : List V) (id : ℕ) (v w : V) → All log views → get_elem? views id ≡ some v → marks_of w ≡ marks_of v → places_of w ≡ places_of v → w.live ≡ true → One log w
       → All log (set views id w)
-  same_seated log views id v w r at same_marks same_places sits = record {
+  same_seated log views id v w r at same_marks same_places live sits = record {
     marks = λ m. let s = total_set (λ u. times m (marks_of u)) views id v w at in let k = ap (times m) same_marks in let b = r.marks m in omega arith;
     shares = let s = total_set (λ u. length (marks_of u)) views id v w at in let k = ap length same_marks in let b = r.shares in omega arith;
     places = λ p. let s = total_set (λ u. times p (places_of u)) views id v w at in let k = ap (times p) same_places in let b = r.places p in omega arith;
     calls = let s = total_set (λ u. length (places_of u)) views id v w at in let k = ap length same_places in let b = r.calls in omega arith;
-    each = set_each (λ j u. u.live ≡ true → One log u) views id w sits (λ j u _ e. r.each j u e);
+    each = set_each (λ j u. u.live ≡ true → One log u) views id w (λ _. sits) (λ j u _ e. r.each j u e);
+    away = set_away views id w (is_live live) r.away;
   }
 
   -- a view that does not count is added
-  pub idle_seated : (log : List E) (views : List V) (w : V) → All log views → w.live ≡ false → marks_of w ≡ [] → places_of w ≡ [] → All log (views ++ w ∷ [])
-  idle_seated log views w r gone no_marks no_places = record {
+  pub idle_seated : (log : List E) (views : List V) (w : V) → All log views → w.live ≡ false → marks_of w ≡ [] → places_of w ≡ [] → Away w → All log (views ++ w ∷ [])
+  idle_seated log views w r gone no_marks no_places away = record {
     marks = λ m. let s = total_snoc (λ u. times m (marks_of u)) views w in let k = ap (times m) no_marks in let b = r.marks m in omega arith;
     shares = let s = total_snoc (λ u. length (marks_of u)) views w in let k = ap length no_marks in let b = r.shares in omega arith;
     places = λ p. let s = total_snoc (λ u. times p (places_of u)) views w in let k = ap (times p) no_places in let b = r.places p in omega arith;
     calls = let s = total_snoc (λ u. length (places_of u)) views w in let k = ap length no_places in let b = r.calls in omega arith;
     each = snoc_each (λ j u. u.live ≡ true → One log u) views w (λ j u e. r.each j u e) (λ j live. absurd (true≢false (sym live ∙ gone)));
+    away = snoc_each (λ j u. Away u) views w r.away (λ j. away);
   }
 
   -- where one live seat has all shares, no other is live
@@ -146,6 +170,18 @@ module _ {E S : Type 0} (mark : E → ℕ) (start : ℕ) (subject : S) where
       none : (f : List ℕ → ℕ) → f [] ≡ 0 → (j : ℕ) (u : V) → j ≢ id → get_elem? views j ≡ some u → (u.live ≡ true) ⊎ (u.live ≡ false) → f (places_of u) ≡ 0
       none f empty j u apart e (inl live') = absurd (all_alone log views id v r at live all j u apart e live')
       none f empty j u apart e (inr gone) = ap f (gone_places u gone) ∙ empty
+
+  -- a live seat knows which entries are its own calls
+  pub live_marked : (log : List E) (views : List V) (id : ℕ) (v : V) → All log views → get_elem? views id ≡ some v → v.live ≡ true → IsMarked mark v
+  live_marked log views id v r at live =
+      let s = r.each id v at live in
+      let same = s.same_start in record {
+        owned = λ p e le h. s.own_marked p e (omega arith) (prefix_get v.seen log p e s.seen_begins h);
+        opening = (let was = s.seen_start in omega arith);
+        past = λ p below. let one = total_at (λ u. times p (places_of u)) views id v at in let a = ap (times p) (live_places v live) in let sum = r.places p in let none = between_below start (length log) p (omega arith) in omega arith;
+        within = s.own_seen;
+        ascends = s.own_ascends;
+      }
 
   -- a seat's mark is no other's
   pub others_unmarked : (log : List E) (views : List V) (id : ℕ) (v : V) → All log views → get_elem? views id ≡ some v → v.live ≡ true → (m : ℕ) → 0 < times m v.marks
@@ -217,6 +253,7 @@ module _ {E S : Type 0} (mark : E → ℕ) (start : ℕ) (subject : S) where
         calls = let s = total_set (λ u. length (places_of u)) views id v w at in let k = ap length was in let k' = ap length now in let c = length-with_place (length v.seen) v.own in omega arith;
         each = set_each (λ j u. u.live ≡ true → One (log ++ e ∷ []) u) views id w (λ _. mine_sits log e v given (r.each id v at live) met once)
             (λ j u apart there alive. other_sits log e u (r.each j u there alive) (others_unmarked log views id v r at live (mark e) has j u apart there alive));
+        away = set_away views id w (is_live live) r.away;
       }
 
   -- so no entry past the opening does
@@ -289,6 +326,7 @@ module _ {E S : Type 0} (mark : E → ℕ) (start : ℕ) (subject : S) where
         each = snoc_each (λ j u. u.live ≡ true → One log u) vs c
             (set_each (λ j u. u.live ≡ true → One log u) views id p (λ _. parent_sits log v (r.each id v at live) free two) (λ j u _ e. r.each j u e))
             (λ j _. child_sits log v (r.each id v at live) free two);
+        away = snoc_each (λ j u. Away u) vs c (set_away views id p (is_live live) r.away) (λ j. is_live live);
       }
 
   both_sit : (log : List E) (v w : V) → One log v → One log w → One log (both v w)
@@ -332,4 +370,5 @@ module _ {E S : Type 0} (mark : E → ℕ) (start : ℕ) (subject : S) where
             let sum = ap length (concat-append v.own w.own) ∙ length-append (concat v.own) (concat w.own) in let before = r.calls in omega arith;
         each = set_each (λ j u. u.live ≡ true → One log u) vs other joined_away (λ never. absurd (true≢false (sym never)))
             (λ j u _ e. set_each (λ i y. y.live ≡ true → One log y) views id b (λ _. both_sit log v w (r.each id v at live) (r.each other w there live')) (λ i y _ f. r.each i y f) j u e);
+        away = set_away vs other joined_away (λ _ _. record { no_marks = refl; no_calls = refl; no_subject = refl }) (set_away views id b (is_live live) r.away);
       }

@@ -1,5 +1,5 @@
 -- The rule of a turn book: one history that only grows, the word that counts it, and what each seat knows of it.
-use Rattle.std.specs.Prelude.{◌≡◌, ℕ, ◌+◌, ◌*◌, ◌<◌, ◌≤◌, ◌⊎◌, true, false, List, [], ◌∷◌, length, if◌then◌else◌, Option, Some, slice_get, slice_index}
+use Rattle.std.specs.Prelude.{◌≡◌, ℕ, ◌+◌, ◌*◌, ◌<◌, ◌≤◌, ◌⊎◌, true, false, List, [], ◌∷◌, length, if◌then◌else◌, Option, Some, None, slice_get, slice_index}
 use Rattle.std.specs.List.{concat}
 use mathlib.Core.List.{IsPrefix}
 use mathlib.Core.Option.{some, none}
@@ -20,9 +20,14 @@ places_of v = if v.live then concat v.own else []
 abbrev pub OwnsMarked : {E : Type 0} → (E → ℕ) → ℕ → List E → List ℕ → List (List ℕ) → Type 0
 OwnsMarked {E} mark start log marks own = (place : ℕ) (e : E) → start ≤ place → slice_get log place ≡ Some e → times place (concat own) ≡ times (mark e) marks
 
--- the same of what a seat has seen, its marks and its own calls
-abbrev pub IsMarked : {E S : Type 0} → (E → ℕ) → View E S → Type 0
-IsMarked mark v = OwnsMarked mark v.start v.seen v.marks v.own
+-- What a seat knows of the history that it has seen: which entries are its own calls, that these lie past the opening and within
+-- what it has seen, and that they ascend.
+pub record IsMarked {E S : Type 0} (mark : E → ℕ) (v : View E S) : Type 0 where
+  pub owned : OwnsMarked mark v.start v.seen v.marks v.own
+  pub opening : v.start ≤ length v.seen
+  pub past : (place : ℕ) → place < v.start → times place (concat v.own) ≡ 0
+  pub within : (place : ℕ) → length v.seen ≤ place → times place (concat v.own) ≡ 0
+  pub ascends : AllAscend v.own
 
 -- what holds of a live seat, where `log` is the history, which had `start` entries at the opening
 pub record Sits {E S : Type 0} (mark : E → ℕ) (start : ℕ) (subject : S) (log : List E) (v : View E S) : Type 0 where
@@ -36,6 +41,12 @@ pub record Sits {E S : Type 0} (mark : E → ℕ) (start : ℕ) (subject : S) (l
   pub own_ascends : AllAscend v.own
   pub own_marked : OwnsMarked mark start log v.marks v.own
 
+-- a seat that was joined away has no marks, no own calls and no subject
+pub record IsAway {E S : Type 0} (v : View E S) : Type 0 where
+  pub no_marks : v.marks ≡ []
+  pub no_calls : v.own ≡ []
+  pub no_subject : v.subject ≡ None
+
 -- what holds of all seats together: each mark below 64 and each place past the opening is one live seat's, once
 pub record Seated {E S : Type 0} (mark : E → ℕ) (start : ℕ) (subject : S) (log : List E) (views : List (View E S)) : Type 0 where
   pub marks : (m : ℕ) → total (λ v. times m (marks_of v)) views ≡ once_between 0 64 m
@@ -43,6 +54,7 @@ pub record Seated {E S : Type 0} (mark : E → ℕ) (start : ℕ) (subject : S) 
   pub places : (place : ℕ) → total (λ v. times place (places_of v)) views ≡ once_between start (length log) place
   pub calls : start + total (λ v. length (places_of v)) views ≡ length log
   pub each : (id : ℕ) (v : View E S) → get_elem? views id ≡ some v → v.live ≡ true → Sits mark start subject log v
+  pub away : (id : ℕ) (v : View E S) → get_elem? views id ≡ some v → v.live ≡ false → v.closed ≡ false → IsAway v
 
 -- nobody has the turn: the word is twice the history's length, and the book is at home, stands for the history and has the subject
 pub record Free {B E S : Type 0} (history : B → List E) (subject_of : B → S) (subject : S) (log : List E) (s : State (Option B) (View E S)) : Type 0 where

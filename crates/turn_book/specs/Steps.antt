@@ -6,7 +6,7 @@ use Rattle.atomic_table.specs.Table.{Me, Step}
 use Rattle.atomic_table.specs.Seated.{TableId}
 use Rattle.turn_book.specs.declared.view.View.{View}
 use Rattle.turn_book.specs.Places.{times, once_between, numbers_from, has_slot, with_place, but_last, last_alone}
-use Rattle.turn_book.specs.History.{OwnsMarked, IsMarked}
+use Rattle.turn_book.specs.History.{IsMarked}
 
 -- the longer of two lists, and of two as long the first
 abbrev pub longer : {E : Type 0} → List E → List E → List E
@@ -19,7 +19,7 @@ shorter xs ys = if nat_lt (length xs) (length ys) then xs else ys
 module _ {E S : Type 0} where
   -- the first seat of a book that has this history and this subject
   abbrev pub opener : List E → S → View E S
-  opener log subject = record { live = true; marks = numbers_from 0 64; subject = Some subject; start = length log; seen = log; told = []; own = [] ∷ []; holds = false; last = 2 * length log; met = []; turns = 0 }
+  opener log subject = record { live = true; closed = false; marks = numbers_from 0 64; subject = Some subject; start = length log; seen = log; told = []; own = [] ∷ []; holds = false; last = 2 * length log; met = []; turns = 0 }
 
   -- a look, or an exchange that lost: it met this number
   abbrev pub having_met : ℕ → View E S → View E S
@@ -43,7 +43,7 @@ module _ {E S : Type 0} where
 
   -- the seat that a split made: the last mark, all that the other had seen, and no calls
   abbrev pub child : View E S → View E S
-  child v = record { live = v.live; marks = last_alone v.marks; subject = v.subject; start = v.start; seen = v.seen; told = []; own = [] ∷ []; holds = false; last = v.last; met = []; turns = 0 }
+  child v = record { live = v.live; closed = false; marks = last_alone v.marks; subject = v.subject; start = v.start; seen = v.seen; told = []; own = [] ∷ []; holds = false; last = v.last; met = []; turns = 0 }
 
   -- the marks and the own calls of both, and the longer seen list
   abbrev pub both : View E S → View E S → View E S
@@ -51,45 +51,45 @@ module _ {E S : Type 0} where
 
   -- a seat that was joined away
   abbrev pub joined_away : View E S
-  joined_away = record { live = false; marks = []; subject = None; start = 0; seen = []; told = []; own = []; holds = false; last = 0; met = []; turns = 0 }
+  joined_away = record { live = false; closed = false; marks = []; subject = None; start = 0; seen = []; told = []; own = []; holds = false; last = 0; met = []; turns = 0 }
 
   -- a seat that was split or joined read the word once more
   abbrev pub noted : ℕ → View E S → View E S
   noted found v = record v { last = found }
 
-  -- the seat of a book that was closed
+  -- the seat that is handed back when its book is closed: it counts no more, and all that it knew stands
   abbrev pub ended : View E S → View E S
-  ended v = record v { live = false }
+  ended v = record v { live = false; closed = true }
 
   -- what a seat learns of the word: with every share it knew the number, and nobody else has the turn
-  pub record Learns (mark : E → ℕ) (v : View E S) (found : ℕ) : Type 0 where
+  pub record Learns (v : View E S) (found : ℕ) : Type 0 where
     pub all : length v.marks ≡ 64 → (found ≡ v.last) × (found % 2 ≡ 0)
     pub few : length v.marks ≤ 64
     pub room : 2 * (v.start + length (concat v.own)) ≤ found
     pub told : IsPrefix v.told v.seen
-    pub marked : IsMarked mark v
 
 -- a seat's view, and the slot that it has out
 abbrev pub Sat : Type 0 → Type 0 → Type 0 → Type 0
 Sat B E S = Me (Option B) (View E S)
 
+-- after each kind of step, `w`, the seat knows which entries are its own calls
 module _ {B E S : Type 0} (mark : E → ℕ) where
   abbrev pub Misses : Sat B E S → ℕ → Sat B E S → Type 0
-  Misses m found w = (w ≡ (having_met found m.0, m.1)) × Learns mark m.0 found
+  Misses m found w = (w ≡ (having_met found m.0, m.1)) × Learns m.0 found × IsMarked mark w.0
 
   abbrev pub Looks : Step (Option B) → Sat B E S → ℕ → Sat B E S → Type 0
   Looks st m found w = Misses m found w
 
   abbrev pub Notes : Step (Option B) → Sat B E S → ℕ → Sat B E S → Type 0
-  Notes st m found w = (w ≡ (noted found m.0, m.1)) × Learns mark m.0 found
+  Notes st m found w = (w ≡ (noted found m.0, m.1)) × Learns m.0 found × IsMarked mark w.0
 
   abbrev pub Leaves : Step (Option B) → Sat B E S → ℕ → Sat B E S → Type 0
-  Leaves st m given w = (w ≡ (left given m.0, [])) × IsMarked mark (left given m.0)
+  Leaves st m given w = (w ≡ (left given m.0, [])) × IsMarked mark w.0
 
 -- of the book that was put back
 abbrev pub Commits : {B E S : Type 0} → (B → List E) → (E → ℕ) → Step (Option B) → Sat B E S → ℕ → Sat B E S → Type 0
 Commits {B} history mark st m given w =
-    (book : B) → m.1 ≡ (0, Some book) ∷ [] → (w ≡ (committed given (history book) m.0, [])) × IsMarked mark (committed given (history book) m.0)
+    (book : B) → m.1 ≡ (0, Some book) ∷ [] → (w ≡ (committed given (history book) m.0, [])) × IsMarked mark w.0
 
 -- what the winner of a turn finds: the book, which begins with what the seat had seen, and in which it owns what carries its marks
 pub record Wins {B E S : Type 0} (history : B → List E) (subject_of : B → S) (mark : E → ℕ) (v : View E S) (found : ℕ) (w : Sat B E S) : Type 0 where
@@ -98,7 +98,7 @@ pub record Wins {B E S : Type 0} (history : B → List E) (subject_of : B → S)
   pub word : found ≡ 2 * length (history book)
   pub about : v.subject ≡ Some (subject_of book)
   pub begins : IsPrefix v.seen (history book)
-  pub marked : OwnsMarked mark v.start (history book) v.marks v.own
+  pub marked : IsMarked mark w.0
   pub room : v.start + length (concat v.own) ≤ length (history book)
 
 abbrev pub Tries : {B E S : Type 0} → (B → List E) → (B → S) → (E → ℕ) → Step (Option B) → Sat B E S → ℕ → Sat B E S → Type 0

@@ -10,7 +10,7 @@ use Rattle.turn_book.specs.declared.turn.Turned.{Turned}
 use Rattle.turn_book.specs.declared.turn.Turned.TheVariants.{Mine, Busy}
 use Rattle.turn_book.specs.declared.view.View.{View}
 use Rattle.turn_book.specs.Places.{times, last_alone}
-use Rattle.turn_book.specs.History.{OwnsMarked}
+use Rattle.turn_book.specs.History.{IsMarked}
 use Rattle.turn_book.specs.Steps.{having_met, won, noted, both}
 
 module _ {B E S : Type 0} where
@@ -90,7 +90,7 @@ pub record IsWon {B E S : Type 0} (history : B → List E) (subject_of : B → S
   pub view : w ≡ won (2 * length (history book)) (history book) (having_met (2 * length (history book)) v)
   pub about : v.subject ≡ Some (subject_of book)
   pub begins : IsPrefix v.seen (history book)
-  pub marked : OwnsMarked mark v.start (history book) v.marks v.own
+  pub marked : IsMarked mark w
 
 -- the turn was won
 abbrev pub IfMine : {B E S : Type 0} → Turned B E S → (Held B E S → Type 0) → Type 0

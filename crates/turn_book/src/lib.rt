@@ -3,6 +3,7 @@
 
 mod book;
 mod held;
+pub mod sample;
 mod seat;
 #[cfg(test)]
 mod tests;

@@ -172,13 +172,14 @@ impl<B: Book> TurnBook<B> {
         }
     }
 
-    /// Takes the turn where nobody has it. It looks at the word once or twice, and waits for nobody.
+    /// Takes the turn where nobody has it, and waits for nobody.
     ///
     /// `Busy` hands the seat back. A seat with all 64 marks is alone, and never busy.
     pub fn try_turn(&self, seat: Seat<B, B::Entry, B::Subject>) -> Turned<'_, B>
         requires of { IsSeatOf (book_id self.now) seat }
         ensures mine { IfMine result (λ held. (held_id held ≡ book_id self.now) × IsWon B.history B.subject B.mark (view_of seat) (held_view held) (held_book held)) }
         ensures busy { IfBusy result (λ back looked found. IsSeatOf (book_id self.now) back × IsBusy (view_of seat) (view_of back) looked found) }
+        ensures marked { IfBusy result (λ back looked found. IsMarked B.mark (view_of back)) }
         ensures alone { IfBusy result (λ back looked found. ¬ (length (marks seat) ≡ 64)) }
     {
         let Seat {

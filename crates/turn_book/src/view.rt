@@ -11,6 +11,8 @@ use std::snapshot::Snapshot;
 pub struct View<E, S> {
     /// Until it is joined away, or its book is closed.
     pub live: bool,
+    /// Its book was closed, and `close` handed it back.
+    pub closed: bool,
     /// Different numbers below 64. Their number is the seat's shares.
     pub marks: LinkedList<u64>,
     /// Of the book, as it was at the opening.
@@ -27,7 +29,7 @@ pub struct View<E, S> {
     pub holds: bool,
     /// The number that it met or stored last.
     pub last: u64,
-    /// The numbers that its looks met, one for each load and each exchange of the word.
+    /// The numbers that its looks met, in order.
     pub met: LinkedList<u64>,
     /// How many turns it won.
     pub turns: u64,
@@ -104,7 +106,7 @@ impl<E, S> Split<View<E, S>> for OneShare {
     ghost right = { child };
 }
 
-/// A second view for the seat that `close` hands back.
+/// The step that ends the book, before its table is closed: a second view, that of a closed book, for the seat that `close` hands back.
 pub struct Ending;
 
 impl<E, S> Split<View<E, S>> for Ending {

@@ -1,7 +1,7 @@
 use Rattle.std.proofs.Common.{◌+◌, ℕ, List, length, ap, ◌∙◌, arith}
 use Rattle.turn_book.specs.Places.{times, last_alone, but_last, last_alone-numbers_from, but_last-numbers_from}
 use Rattle.turn_book.proofs.Sums.{length-numbers_from, times_here}
-use Rattle.turn_book.proofs.tests.deal.Goals as goal
+use Rattle.turn_book.proofs.sample.deal.Goals as goal
 
 pub split-requires-clause-two : goal.split-requires-clause-two
 split-requires-clause-two c = omega (arith, ap length c.requires.marks, length-numbers_from 0 (c.args.mark + 1))
