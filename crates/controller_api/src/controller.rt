@@ -5,6 +5,7 @@ ghost use Rattle.controller_api.specs.declared.item.UpItem.{UpItem};
 
 use crate::item::UpItem;
 use crate::outbox::Outbox;
+use of10_messages::Message;
 use std::alloc::AllocError;
 
 /// A controller: a state that reacts to what it hears.
@@ -24,9 +25,30 @@ pub trait Controller: Send + Sync + Drop {
         ensures start { IfOk result (λ c. c ≡ start self.now) }
         ensures policies { IfOk result (λ c. policies c ≡ 0) };
 
-    /// Hears an item, and puts what it sends to the end of `out`. After want of memory the controller and the messages are as
+    /// Puts what it sends at an item to the end of `out`, and changes nothing of itself. After want of memory the messages are as
     /// they were.
-    fn handle(&mut self, item: &UpItem, out: &mut Outbox) -> Result<(), AllocError>
+    fn send(&self, item: &UpItem, out: &mut Outbox) -> Result<(), AllocError>
+        requires item { IsValidUpItem item.now }
+        requires policies { policies self.now < 2 ^ 24 }
+        ensures sent { OnOk result (out.new ≡ out.old ++ (react self.now item.now).sent) }
+        ensures few { OnOk result (length (react self.now item.now).sent < 2 ^ 32) }
+        ensures unsent { OnErr result (out.new ≡ out.old) };
+
+    /// Comes to the state after an item, where `sent` is what it sends at it. After want of memory it is as it was.
+    fn hear(&mut self, item: &UpItem, sent: &[(u16, Message)]) -> Result<(), AllocError>
+        requires item { IsValidUpItem item.now }
+        requires policies { policies self.old < 2 ^ 24 }
+        requires sent { sent.now ≡ (react self.old item.now).sent }
+        ensures state { OnOk result (self.new ≡ (react self.old item.now).state) }
+        ensures policies { OnOk result (CountsPolicies item.now (policies self.old) (policies self.new)) }
+        ensures err { OnErr result (self.new ≡ self.old) };
+
+    /// A second controller in the same state.
+    fn copy(&self) -> Result<Self, AllocError>
+        ensures { IfOk result (λ c. c ≡ self.now) };
+
+    /// Sends what answers an item and hears it. After want of memory the controller and the messages are as they were.
+    final fn handle(&mut self, item: &UpItem, out: &mut Outbox) -> Result<(), AllocError>
         requires item { IsValidUpItem item.now }
         requires policies { policies self.old < 2 ^ 24 }
         ensures state { OnOk result (self.new ≡ (react self.old item.now).state) }
@@ -34,9 +56,16 @@ pub trait Controller: Send + Sync + Drop {
         ensures few { OnOk result (length (react self.old item.now).sent < 2 ^ 32) }
         ensures policies { OnOk result (CountsPolicies item.now (policies self.old) (policies self.new)) }
         ensures err { OnErr result (self.new ≡ self.old) }
-        ensures unsent { OnErr result (out.new ≡ out.old) };
-
-    /// A second controller in the same state.
-    fn copy(&self) -> Result<Self, AllocError>
-        ensures { IfOk result (λ c. c ≡ self.now) };
+        ensures unsent { OnErr result (out.new ≡ out.old) }
+    {
+        let before = out.list().len();
+        self.send(item, out)?;
+        match self.hear(item, &out.list()[before..]) {
+            Ok(()) => Ok(()),
+            Err(error) => {
+                out.truncate(before);
+                Err(error)
+            }
+        }
+    }
 }

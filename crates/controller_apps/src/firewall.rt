@@ -183,18 +183,6 @@ impl Firewall {
             UpItem::FromSwitch(..) | UpItem::Gone(_) => {}
         }
     }
-
-    /// Sends what answers an item and hears it. After want of memory some of the messages may have been sent.
-    fn take(&mut self, item: &UpItem, out: &mut Outbox) -> Result<(), AllocError>
-        requires { IsValidUpItem item.now }
-        ensures state { OnOk result (self.new ≡ (guarding self.old item.now).state) }
-        ensures sent { OnOk result (out.new ≡ out.old ++ (guarding self.old item.now).sent) }
-        ensures err { OnErr result (self.new ≡ self.old) }
-        ensures unsent { OnErr result (Extends out.old out.new) }
-    {
-        self.send(item, out)?;
-        self.hear(item)
-    }
 }
 
 impl Controller for Firewall {
@@ -209,16 +197,20 @@ impl Controller for Firewall {
         Ok(Firewall::new(self.alloc, self.reinstall, rules))
     }
 
-    fn handle(&mut self, item: &UpItem, out: &mut Outbox) -> Result<(), AllocError> {
+    fn send(&self, item: &UpItem, out: &mut Outbox) -> Result<(), AllocError> {
         self.parts();
         let before = out.list().len();
-        match self.take(item, out) {
+        match Firewall::send(self, item, out) {
             Ok(()) => Ok(()),
             Err(error) => {
                 out.truncate(before);
                 Err(error)
             }
         }
+    }
+
+    fn hear(&mut self, item: &UpItem, _sent: &[(u16, Message)]) -> Result<(), AllocError> {
+        Firewall::hear(self, item)
     }
 
     fn copy(&self) -> Result<Firewall, AllocError> {

@@ -150,18 +150,6 @@ impl Learning {
             self.known.put_back(*s, seen.header().dl_src, before);
         }
     }
-
-    /// Sends what answers an item and hears it. After want of memory some of the messages may have been sent.
-    fn take(&mut self, item: &UpItem, out: &mut Outbox) -> Result<(), AllocError>
-        requires { IsValidUpItem item.now }
-        ensures state { OnOk result (self.new ≡ (learning self.old item.now).state) }
-        ensures sent { OnOk result (out.new ≡ out.old ++ (learning self.old item.now).sent) }
-        ensures err { OnErr result (self.new ≡ self.old) }
-        ensures unsent { OnErr result (Extends out.old out.new) }
-    {
-        self.send(item, out)?;
-        self.hear(item)
-    }
 }
 
 impl Controller for Learning {
@@ -175,15 +163,19 @@ impl Controller for Learning {
         Ok(Learning::new(self.alloc, self.idle))
     }
 
-    fn handle(&mut self, item: &UpItem, out: &mut Outbox) -> Result<(), AllocError> {
+    fn send(&self, item: &UpItem, out: &mut Outbox) -> Result<(), AllocError> {
         let before = out.list().len();
-        match self.take(item, out) {
+        match Learning::send(self, item, out) {
             Ok(()) => Ok(()),
             Err(error) => {
                 out.truncate(before);
                 Err(error)
             }
         }
+    }
+
+    fn hear(&mut self, item: &UpItem, _sent: &[(u16, Message)]) -> Result<(), AllocError> {
+        Learning::hear(self, item)
     }
 
     fn copy(&self) -> Result<Learning, AllocError> {

@@ -1,5 +1,5 @@
 -- The xids and cookies that a host gives to messages.
-use Rattle.std.specs.Prelude.{ℕ, ◌+◌, ◌%◌, ◌^◌, ◌==◌, List, [], ◌∷◌, Bool, false, if◌then◌else◌}
+use Rattle.std.specs.Prelude.{ℕ, ◌+◌, ◌%◌, ◌^◌, ◌==◌, List, [], ◌∷◌, fold, Bool, false, if◌then◌else◌}
 use Rattle.of10_messages.specs.declared.message.Message.{Message}
 use Rattle.of10_messages.specs.declared.message.Message.TheVariants as message
 use Rattle.of10_messages.specs.Wire.{with_xid}
@@ -41,3 +41,11 @@ abbrev pub numbered : ℕ → ℕ → List (ℕ × Message) → Numbered
 numbered xid cookie [] = record { sent = []; xid = xid; cookie = cookie }
 numbered xid cookie (one ∷ rest) = let after = numbered (next_xid xid) (cookie_after cookie one.1) rest in
     record { sent = (one.0, with_numbers xid cookie one.1) ∷ after.sent; xid = after.xid; cookie = after.cookie }
+
+-- the next xid after messages that were sent: each has taken one
+abbrev pub xid_past : ℕ → List (ℕ × Message) → ℕ
+xid_past xid sent = fold (λ xid one. next_xid xid) xid sent
+
+-- the next cookie after messages that were sent: each that adds an entry has taken one
+abbrev pub cookie_past : ℕ → List (ℕ × Message) → ℕ
+cookie_past cookie sent = fold (λ cookie one. cookie_after cookie one.1) cookie sent

@@ -78,41 +78,31 @@ impl Host {
     }
 
     /// Greets a switch, and asks what it can do. After want of memory some of it may have been sent.
-    fn greet(&mut self, s: u16, out: &mut Outbox) -> Result<(), AllocError>
-        ensures state { OnOk result (self.new ≡ (greeting s self.old).state) }
-        ensures sent { OnOk result (out.new ≡ out.old ++ (greeting s self.old).sent) }
-        ensures err { OnErr result (self.new ≡ self.old) }
+    fn greet(&self, s: u16, out: &mut Outbox) -> Result<(), AllocError>
+        ensures sent { OnOk result (out.new ≡ out.old ++ (greeting s self.now).sent) }
         ensures unsent { OnErr result (Extends out.old out.new) }
     {
         let mut own = Outbox::new(self.alloc);
         own.send(s, Message::hello(0))?;
         own.send(s, Message::features_request(0))?;
-        self.numbers = self.numbers.send(own.into_list(), out)?;
-        Ok(())
+        self.numbers.send(own.into_list(), out)
     }
 
-    /// Tells each application of an item. After want of memory some of what they send may have been sent.
-    fn tell(&mut self, item: &UpItem, out: &mut Outbox) -> Result<(), AllocError>
+    /// Sends what the applications send at an item. After want of memory some of it may have been sent.
+    fn send_theirs(&self, item: &UpItem, out: &mut Outbox) -> Result<(), AllocError>
         requires { IsValidUpItem item.now }
-        ensures state { OnOk result (self.new ≡ (telling self.old item.now).state) }
-        ensures sent { OnOk result (out.new ≡ out.old ++ (telling self.old item.now).sent) }
-        ensures err { OnErr result (self.new ≡ self.old) }
+        ensures sent { OnOk result (out.new ≡ out.old ++ (telling self.now item.now).sent) }
         ensures unsent { OnErr result (Extends out.old out.new) }
     {
         let mut own = Outbox::new(self.alloc);
         send_all(self.apps.as_slice(), item, &mut own)?;
-        let after = self.numbers.send(own.into_list(), out)?;
-        hear_all(self.apps.as_mut_slice(), item)?;
-        self.numbers = after;
-        Ok(())
+        self.numbers.send(own.into_list(), out)
     }
 
-    /// Hears an item. After want of memory some of the messages may have been sent.
-    fn hear(&mut self, item: &UpItem, out: &mut Outbox) -> Result<(), AllocError>
+    /// Sends what answers an item, and changes nothing of itself. After want of memory some of it may have been sent.
+    fn answer(&self, item: &UpItem, out: &mut Outbox) -> Result<(), AllocError>
         requires { IsValidUpItem item.now }
-        ensures state { OnOk result (self.new ≡ (hosting self.old item.now).state) }
-        ensures sent { OnOk result (out.new ≡ out.old ++ (hosting self.old item.now).sent) }
-        ensures err { OnErr result (self.new ≡ self.old) }
+        ensures sent { OnOk result (out.new ≡ out.old ++ (hosting self.now item.now).sent) }
         ensures unsent { OnErr result (Extends out.old out.new) }
     {
         match item {
@@ -125,10 +115,31 @@ impl Host {
                 Message::FeaturesReply { .. }
                 | Message::PacketIn { .. }
                 | Message::PortStatus { .. },
-            ) => self.tell(item, out),
+            ) => self.send_theirs(item, out),
             UpItem::FromSwitch(..) => Ok(()),
-            UpItem::Gone(_) | UpItem::Policy(_) => self.tell(item, out),
+            UpItem::Gone(_) | UpItem::Policy(_) => self.send_theirs(item, out),
         }
+    }
+
+    /// It has greeted a switch by these messages.
+    fn count_greeting(&mut self, s: u16, sent: &[(u16, Message)])
+        requires { sent.now ≡ (greeting s self.old).sent }
+        ensures { self.new ≡ (greeting s self.old).state }
+    {
+        self.numbers = self.numbers.after(sent);
+    }
+
+    /// Tells each application of an item, where these are all messages that they send at it. After want of memory all is as it
+    /// was.
+    fn tell(&mut self, item: &UpItem, sent: &[(u16, Message)]) -> Result<(), AllocError>
+        requires item { IsValidUpItem item.now }
+        requires sent { sent.now ≡ (telling self.old item.now).sent }
+        ensures state { OnOk result (self.new ≡ (telling self.old item.now).state) }
+        ensures err { OnErr result (self.new ≡ self.old) }
+    {
+        hear_all(self.apps.as_mut_slice(), item)?;
+        self.numbers = self.numbers.after(sent);
+        Ok(())
     }
 }
 
@@ -150,15 +161,33 @@ impl Controller for Host {
         })
     }
 
-    fn handle(&mut self, item: &UpItem, out: &mut Outbox) -> Result<(), AllocError> {
+    fn send(&self, item: &UpItem, out: &mut Outbox) -> Result<(), AllocError> {
         self.bounds(item);
         let before = out.list().len();
-        match self.hear(item, out) {
+        match self.answer(item, out) {
             Ok(()) => Ok(()),
             Err(error) => {
                 out.truncate(before);
                 Err(error)
             }
+        }
+    }
+
+    fn hear(&mut self, item: &UpItem, sent: &[(u16, Message)]) -> Result<(), AllocError> {
+        self.bounds(item);
+        match item {
+            UpItem::FromSwitch(s, Message::Hello { .. }) => {
+                self.count_greeting(*s, sent);
+                Ok(())
+            }
+            UpItem::FromSwitch(
+                _,
+                Message::FeaturesReply { .. }
+                | Message::PacketIn { .. }
+                | Message::PortStatus { .. },
+            ) => self.tell(item, sent),
+            UpItem::FromSwitch(..) => Ok(()),
+            UpItem::Gone(_) | UpItem::Policy(_) => self.tell(item, sent),
         }
     }
 

@@ -13,7 +13,7 @@ use controller_api::{Controller, Outbox, UpItem};
 use listed::Listed;
 use message_pools::Item;
 use of10_match::{Header, Match, Packet};
-use of10_messages::{Action, Notice, one_action};
+use of10_messages::{Action, Message, Notice, one_action};
 use std::alloc::{AllocError, Global};
 use std::test::Fail;
 use topology::Topology;
@@ -33,7 +33,11 @@ impl Controller for Idle {
         Ok(Idle)
     }
 
-    fn handle(&mut self, _item: &UpItem, _out: &mut Outbox) -> Result<(), AllocError> {
+    fn send(&self, _item: &UpItem, _out: &mut Outbox) -> Result<(), AllocError> {
+        Ok(())
+    }
+
+    fn hear(&mut self, _item: &UpItem, _sent: &[(u16, Message)]) -> Result<(), AllocError> {
         Ok(())
     }
 

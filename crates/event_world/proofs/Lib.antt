@@ -7,6 +7,7 @@ pub mod Giving
 pub mod InputsFit
 pub mod Lists
 pub mod Named
+pub mod Posted
 pub mod Reading
 pub mod Rooms
 pub mod Sent

@@ -1,12 +1,12 @@
 -- Room in the pools for mail, item by item, and what a put and a flush leave of it.
-use Rattle.std.proofs.Common.{◌≡◌, ◌∙◌, ℕ, ◌+◌, ◌^◌, ◌<◌, ◌≤◌, Bool, true, false, cond, List, [], ◌∷◌, filter_map, length, take, get_or, Option, None, option_map, All, ap, arith, inl, inr, refl, subst, sym}
+use Rattle.std.proofs.Common.{◌≡◌, ◌∙◌, ℕ, ◌+◌, ◌^◌, ◌<◌, ◌≤◌, Bool, true, false, cond, List, [], ◌∷◌, ◌++◌, filter_map, length, take, get_or, Option, None, option_map, All, ap, arith, inl, inr, refl, subst, sym}
 use Rattle.std.specs.List.{enumerate_from}
 use Rattle.std.specs.Prelude.{IfSome, IsSome}
 use Rattle.std.proofs.lemmas.Bool.{cases_Bool}
-use Rattle.std.proofs.lemmas.List.{length_push}
+use Rattle.std.proofs.lemmas.List.{length_push, take_more}
 use Rattle.std.proofs.lemmas.List.Elements.{All-head, All-map, All-tail, All-weaker}
 use Rattle.std.proofs.lemmas.List.FromFn.{length-enumerate_from}
-use Rattle.std.proofs.lemmas.List.Sums.{sum_by-cons, sum_by_more}
+use Rattle.std.proofs.lemmas.List.Sums.{sum_by-append, sum_by-cons}
 use Rattle.message_pools.specs.Queue.{Queue, Reserved, empty_queue, flushed, next_number, rest_of, with_last}
 use Rattle.message_pools.specs.declared.item.Item.{Item}
 use Rattle.message_pools.specs.declared.item.Item.TheVariants as item
@@ -43,30 +43,35 @@ there_before_put name other change before after put there =
 
 -- ---- room for mail
 
--- there is room for one item of mail more
-pub room_more : (mail : Mail) (i : ℕ) (one : PoolName × Item) (before after : List (PoolName × Reserved)) → i < length mail → one ≡ get_or mail i one → HasRoomForMail (take i mail) before → queues after ≡ queues before
-    → (IsSome (pool_of one.0 before) → HasRoomFor one.0 1 before after) → HasRoomFor one.0 0 before after → HasRoomForMail (take (i + 1) mail) after
-room_more mail i one before after within at room same more kept name there =
+-- there is room for one item of mail more at the end
+pub room_push : (mail : Mail) (one : PoolName × Item) (before after : List (PoolName × Reserved)) → HasRoomForMail mail before → queues after ≡ queues before
+    → (IsSome (pool_of one.0 before) → HasRoomFor one.0 1 before after) → HasRoomFor one.0 0 before after → HasRoomForMail (mail ++ one ∷ []) after
+room_push mail one before after room same more kept name there =
     let was : IsSome (pool_of name before) = there_by_queues name before (subst (λ pools. IsSome (pool_of name pools)) same (queue_there name after there)) in
-    let had : count_for name (take i mail) ≤ room_of name before = room name was in
-    let count : count_for name (take (i + 1) mail) ≡ count_for name (take i mail) + cond (is_same name one.0) 1 0 =
-    sum_by_more (λ (one : PoolName × Item). cond (is_same name one.0) 1 0) mail i one within
-    ∙ ap (λ (o : PoolName × Item). count_for name (take i mail) + cond (is_same name o.0) 1 0) (sym at) in
+    let had : count_for name mail ≤ room_of name before = room name was in
+    let count : count_for name (mail ++ one ∷ []) ≡ count_for name mail + (0 + cond (is_same name one.0) 1 0) = sum_by-append (λ (o : PoolName × Item). cond (is_same name o.0) 1 0) mail (one ∷ []) in
     elim (cases_Bool (is_same name one.0)) [
       | inl holds ↦
           let is : name ≡ one.0 = same_name name one.0 holds in
           let back : is_same one.0 name ≡ true = sym (same_back name one.0) ∙ holds in
           let got = more (subst (λ n. IsSome (pool_of n before)) is was) name in
           let got' : room_of name before + 1 ≤ room_of name after = rw back at got in
-          let count' : count_for name (take (i + 1) mail) ≡ count_for name (take i mail) + 1 = rw holds at count in
+          let count' : count_for name (mail ++ one ∷ []) ≡ count_for name mail + (0 + 1) = rw holds at count in
           omega arith
       | inr fails ↦
           let back : is_same one.0 name ≡ false = sym (same_back name one.0) ∙ fails in
           let got = kept name in
           let got' : room_of name before + 0 ≤ room_of name after = rw back at got in
-          let count' : count_for name (take (i + 1) mail) ≡ count_for name (take i mail) + 0 = rw fails at count in
+          let count' : count_for name (mail ++ one ∷ []) ≡ count_for name mail + (0 + 0) = rw fails at count in
           omega arith
     ]
+
+-- there is room for one item more of a list of mail
+pub room_more : (mail : Mail) (i : ℕ) (one : PoolName × Item) (before after : List (PoolName × Reserved)) → i < length mail → one ≡ get_or mail i one → HasRoomForMail (take i mail) before → queues after ≡ queues before
+    → (IsSome (pool_of one.0 before) → HasRoomFor one.0 1 before after) → HasRoomFor one.0 0 before after → HasRoomForMail (take (i + 1) mail) after
+room_more mail i one before after within at room same more kept =
+    subst (λ mail. HasRoomForMail mail after) (sym (take_more mail i one within ∙ ap (λ (o : PoolName × Item). take i mail ++ o ∷ []) (sym at)))
+    (room_push (take i mail) one before after room same more kept)
 
 -- the first item of mail counts for its own pool
 count_first : (name : PoolName) (one : PoolName × Item) (mail : Mail) (test : Bool) → is_same name one.0 ≡ test → count_for name (one ∷ mail) ≡ cond test 1 0 + count_for name mail

@@ -264,18 +264,18 @@ can_number_sent topology controllers s status shared pools up out mail fits even
     let below : length mail < 2 ^ 32 = omega arith in
     subst (CanNumber (length mail)) (sym same) (can_number topology controllers (length mail) shared fits events below)
 
--- a switch stands at a place in both lists
-pub place_within : (inside switches : List State) (at s : ℕ) → inside ≡ switches → at ≡ s → s < length switches → at < length inside
-place_within inside switches at s same here within = subst (λ (n : ℕ). n < length inside) (sym here) (subst (λ (xs : List State). s < length xs) (sym same) within)
+-- something stands at a place in both lists
+pub place_within : {A : Type 0} (inside list : List A) (at s : ℕ) → inside ≡ list → at ≡ s → s < length list → at < length inside
+place_within {A = A} inside list at s same here within = subst (λ (n : ℕ). n < length inside) (sym here) (subst (λ (xs : List A). s < length xs) (sym same) within)
 
-pub same_state : (inside switches : List State) (at s : ℕ) (one other : State) → inside ≡ switches → at ≡ s → slice_get inside at ≡ Some one → slice_get switches s ≡ Some other → one ≡ other
-same_state inside switches at s one other same here first second =
-    same_Some one other (sym first ∙ ap (λ (xs : List State). slice_get xs at) same ∙ ap (slice_get switches) here ∙ second)
+pub same_state : {A : Type 0} (inside list : List A) (at s : ℕ) (one other : A) → inside ≡ list → at ≡ s → slice_get inside at ≡ Some one → slice_get list s ≡ Some other → one ≡ other
+same_state {A = A} inside list at s one other same here first second =
+    same_Some one other (sym first ∙ ap (λ (xs : List A). slice_get xs at) same ∙ ap (slice_get list) here ∙ second)
 
 -- the state that was read stands at its place
-pub stands : (items switches : List State) (at s : ℕ) (one : State) → items ≡ switches → at ≡ s → s < length switches → one ≡ get_or items at one → slice_get switches s ≡ Some one
-stands items switches at s one same here within is =
-    slice_get_read switches (length switches) s one refl within (is ∙ ap (λ (xs : List State). get_or xs at one) same ∙ ap (λ (n : ℕ). get_or switches n one) here)
+pub stands : {A : Type 0} (items list : List A) (at s : ℕ) (one : A) → items ≡ list → at ≡ s → s < length list → one ≡ get_or items at one → slice_get list s ≡ Some one
+stands {A = A} items list at s one same here within is =
+    slice_get_read list (length list) s one refl within (is ∙ ap (λ (xs : List A). get_or xs at one) same ∙ ap (λ (n : ℕ). get_or list n one) here)
 
 -- ---- a command that is taken
 
@@ -352,6 +352,14 @@ undone {C = C} world inside shared at before after same kept found is =
     let list : slice_set inside.switches at after ≡ inside.switches = ap (slice_set inside.switches at) is ∙ set_same inside.switches at before found in
     ap (λ (shared : Shared). record { shared = shared; switches = slice_set inside.switches at after; controllers = inside.controllers }) kept
     ∙ ap (λ (switches : List State). record inside { switches = switches }) list
+    ∙ same
+
+-- and where a controller is as it was
+pub unheard : {C : Type 0} (world inside : Situation C) (shared : Shared) (at : ℕ) (before after : C) → inside ≡ world → shared ≡ inside.shared → slice_get inside.controllers at ≡ Some before → after ≡ before → ◌≡◌ {A = Situation C} (record { shared = shared; switches = inside.switches; controllers = slice_set inside.controllers at after }) world
+unheard {C = C} world inside shared at before after same kept found is =
+    let list : slice_set inside.controllers at after ≡ inside.controllers = ap (slice_set inside.controllers at) is ∙ set_same inside.controllers at before found in
+    ap (λ (shared : Shared). record { shared = shared; switches = inside.switches; controllers = slice_set inside.controllers at after }) kept
+    ∙ ap (λ (controllers : List C). record inside { controllers = controllers }) list
     ∙ same
 
 -- what holds, holds after an Err

@@ -20,7 +20,7 @@ ghost use Rattle.event_world.specs.World.{IsFirst, counted_world, first_item, ne
 
 use crate::delivery::deliver_up;
 use crate::effect::{effect_of, fails};
-use crate::mail::{mail_of_controller, mail_of_switch, up_from};
+use crate::mail::{mail_of_switch, up_from};
 use crate::world::World;
 use controller_api::{Controller, Outbox, UpItem};
 use listed::{Listed, Plain};
@@ -48,23 +48,24 @@ impl<C: Controller> World<C> {
             PoolName::Pkt { s, p } => self.take_packet(setup, s, p),
             PoolName::Note(s) => self.take_notice(setup, s),
             PoolName::App { c, .. } | PoolName::Admin(c) => self.hear(setup, name, c),
-            PoolName::Recv(h) => self.receive(setup, h),
+            PoolName::Recv(h) => {
+                self.receive(setup, h);
+                Ok(())
+            }
         }
     }
 
     // A host receives the first packet that waits for it.
-    fn receive(&mut self, setup: &Setup<C>, h: u16) -> Result<(), AllocError>
+    fn receive(&mut self, setup: &Setup<C>, h: u16)
         requires setup { IsValidSetup setup.now }
         requires fits { Fits C.policies setup.now self.old }
         requires events { self.old.shared.events < 2 ^ 31 }
         requires head { IsSome (first_item (Recv h) self.old.shared) }
-        ensures ok { OnOk result (self.new ≡ with_item C.react setup.now.topology (Recv h) (first_item (Recv h) self.old.shared) self.old) }
-        ensures fits { OnOk result (Fits C.policies setup.now (counted_world 0 self.new)) }
-        ensures err { OnErr result (self.new ≡ self.old) }
+        ensures done { self.new ≡ with_item C.react setup.now.topology (Recv h) (first_item (Recv h) self.old.shared) self.old }
+        ensures fits { Fits C.policies setup.now (counted_world 0 self.new) }
     {
         count_one(&mut self.shell.received, h);
         self.shell.pools.take(PoolName::Recv(h));
-        Ok(())
     }
 
     // A switch takes the first packet at a port.
@@ -191,8 +192,7 @@ impl<C: Controller> World<C> {
         Ok(())
     }
 
-    // A controller hears the first item of one of its pools. It takes its step on a copy of its state, since it can't be told
-    // beforehand how much room is needed for what it sends.
+    // A controller hears the first item of one of its pools. There is room for what it sends at the item before it changes.
     fn hear(&mut self, setup: &Setup<C>, name: PoolName, c: u16) -> Result<(), AllocError>
         requires setup { IsValidSetup setup.now }
         requires fits { Fits C.policies setup.now self.old }
@@ -204,22 +204,14 @@ impl<C: Controller> World<C> {
         ensures err { OnErr result (self.new ≡ self.old) }
     {
         let item = self.heard(name)?;
-        let mut after = self.copy_of(c)?;
+        let at = usize::from(c);
         let mut out = Outbox::new(self.alloc);
-        after.handle(&item, &mut out)?;
-        let sent = out.into_list();
-        let mail = mail_of_controller(self.alloc, &setup.topology, &self.shell.status, c, sent)?;
-        self.shell.exchange(name, mail)?;
-        self.controllers.replace(usize::from(c), after);
+        self.controllers[at].send(&item, &mut out)?;
+        self.shell.make_room_down(&setup.topology, c, out.list())?;
+        self.controllers.item_mut(at).hear(&item, out.list())?;
+        self.shell
+            .exchange_down(name, &setup.topology, c, out.into_list());
         Ok(())
-    }
-
-    // A second controller in the state of one of the world's.
-    fn copy_of(&self, c: u16) -> Result<C, AllocError>
-        requires { c < length self.now.controllers }
-        ensures { IfOk result (λ state. slice_get self.now.controllers c ≡ Some state) }
-    {
-        self.controllers[usize::from(c)].copy()
     }
 
     // What a controller hears at the first item of a pool.

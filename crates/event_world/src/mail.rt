@@ -2,9 +2,8 @@
 ghost use Rattle.std.specs.Prelude.{◌≡◌, ◌<◌, ◌≤◌, ◌^◌, ◌++◌, length, filter_map, IfOk, IfSome, IsSome, OnOk};
 ghost use Rattle.std.specs.Option.{option_to_list};
 ghost use Rattle.message_pools.specs.declared.item.Item.TheVariants.{Message};
-ghost use Rattle.event_world.specs.Mail.{addressed, down_to, mail_down, mail_out, mail_up, out_of, owner_of, up_from};
+ghost use Rattle.event_world.specs.Mail.{addressed, down_to, mail_out, mail_up, out_of, owner_of, up_from};
 
-use controller_api::SentMessages;
 use listed::Listed;
 use message_pools::Item;
 use pool_book::PoolName;
@@ -36,7 +35,7 @@ pub(crate) fn up_from(topology: &Topology, status: &Status, s: u16) -> Option<Po
 }
 
 /// The pool to which a message from a controller to a switch comes.
-fn down_to(topology: &Topology, status: &Status, c: u16, s: u16) -> Option<PoolName>
+pub(crate) fn down_to(topology: &Topology, status: &Status, c: u16, s: u16) -> Option<PoolName>
     ensures { result ≡ down_to topology.now status.now c s }
 {
     let is_own = owner_of(topology, s) == Some(c);
@@ -99,24 +98,6 @@ fn mail_up(alloc: Global, name: Option<PoolName>, up: Ups) -> Result<Mail, Alloc
 {
     let mut mail = Listed::new(alloc);
     for message in up.into_vec() {
-        address(&mut mail, name, Item::Message(message))?;
-    }
-    Ok(mail)
-}
-
-/// The mail of what a controller sends.
-pub(crate) fn mail_of_controller(
-    alloc: Global,
-    topology: &Topology,
-    status: &Status,
-    c: u16,
-    sent: SentMessages,
-) -> Result<Mail, AllocError>
-    ensures { IfOk result (λ mail. mail ≡ mail_down topology.now status.now c sent) }
-{
-    let mut mail = Listed::new(alloc);
-    for (s, message) in sent.into_vec() {
-        let name = down_to(topology, status, c, s);
         address(&mut mail, name, Item::Message(message))?;
     }
     Ok(mail)

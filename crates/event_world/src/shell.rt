@@ -2,16 +2,18 @@
 ghost use Rattle.std.specs.Prelude.{◌≡◌, ◌<◌, ◌≤◌, ◌+◌, ◌^◌, length, map, All, IfOk, OnErr, OnOk, replicate};
 ghost use Rattle.pool_book.specs.Names.{names};
 ghost use Rattle.pool_book.specs.Pools.{queues};
-ghost use Rattle.event_world.specs.Room.{CanNumber};
+ghost use Rattle.event_world.specs.Mail.{mail_down};
+ghost use Rattle.event_world.specs.Room.{CanNumber, HasRoomForMail};
 ghost use Rattle.event_world.specs.Shell.{shared_of};
 ghost use Rattle.event_world.specs.World.{affected, delivered, first_joins, start_shared, taken};
 
-use crate::delivery::{deliver, flush_all, make_room};
+use crate::delivery::{deliver, deliver_down, flush_all, make_room, make_room_down};
 use crate::effect::Effect;
 use crate::mail::Mail;
+use controller_api::SentMessages;
 use listed::{Listed, Plain};
 use message_pools::Item;
-use of10_messages::Notice;
+use of10_messages::{Message, Notice};
 use pool_book::{PoolName, Pools};
 use std::alloc::{AllocError, Global};
 use topology::{Status, Topology};
@@ -63,6 +65,35 @@ impl Shell {
         self.pools.take(name);
         deliver(&mut self.pools, mail);
         Ok(())
+    }
+
+    /// Makes room for what a controller sends. Nothing else changes whatever the answer.
+    pub(crate) fn make_room_down(
+        &mut self,
+        topology: &Topology,
+        c: u16,
+        sent: &[(u16, Message)],
+    ) -> Result<(), AllocError>
+        ensures room { OnOk result (HasRoomForMail (mail_down topology.now self.new.status c sent.now) self.new.pools) }
+        ensures shared { shared_of self.new ≡ shared_of self.old }
+    {
+        make_room_down(&mut self.pools, topology, &self.status, c, sent)
+    }
+
+    /// Takes the first item of a pool, and then puts what a controller sends into its pools, where there is room for it.
+    pub(crate) fn exchange_down(
+        &mut self,
+        name: PoolName,
+        topology: &Topology,
+        c: u16,
+        sent: SentMessages,
+    )
+        requires room { HasRoomForMail (mail_down topology.now self.old.status c sent) self.old.pools }
+        requires numbers { CanNumber (length (mail_down topology.now self.old.status c sent)) (queues self.old.pools) }
+        ensures { shared_of self.new ≡ delivered (mail_down topology.now self.old.status c sent) (taken name (shared_of self.old)) }
+    {
+        self.pools.take(name);
+        deliver_down(&mut self.pools, topology, &self.status, c, sent);
     }
 
     /// An input does what it does. After want of memory nothing has changed.

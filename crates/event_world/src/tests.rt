@@ -36,15 +36,18 @@ impl Controller for Greeter {
         Ok(Greeter { policies: 0 })
     }
 
-    fn handle(&mut self, item: &UpItem, out: &mut Outbox) -> Result<(), AllocError> {
+    fn send(&self, item: &UpItem, out: &mut Outbox) -> Result<(), AllocError> {
         match item {
             UpItem::FromSwitch(s, _) => out.send(*s, Message::hello(0)),
-            UpItem::Gone(_) => Ok(()),
-            UpItem::Policy(_) => {
-                self.policies += 1;
-                Ok(())
-            }
+            UpItem::Gone(_) | UpItem::Policy(_) => Ok(()),
         }
+    }
+
+    fn hear(&mut self, item: &UpItem, _sent: &[(u16, Message)]) -> Result<(), AllocError> {
+        if let UpItem::Policy(_) = item {
+            self.policies += 1;
+        }
+        Ok(())
     }
 
     fn copy(&self) -> Result<Greeter, AllocError> {

@@ -212,19 +212,21 @@ impl Controller for Routing {
         Routing::new(self.alloc, self.clear_on_down, map)
     }
 
-    fn handle(&mut self, item: &UpItem, out: &mut Outbox) -> Result<(), AllocError> {
+    fn send(&self, item: &UpItem, out: &mut Outbox) -> Result<(), AllocError> {
         a_routing_controller_sends_few();
         let before = out.list().len();
-        match self.send(item, out) {
-            Ok(()) => {
-                self.hear(item);
-                Ok(())
-            }
+        match Routing::send(self, item, out) {
+            Ok(()) => Ok(()),
             Err(error) => {
                 out.truncate(before);
                 Err(error)
             }
         }
+    }
+
+    fn hear(&mut self, item: &UpItem, _sent: &[(u16, Message)]) -> Result<(), AllocError> {
+        Routing::hear(self, item);
+        Ok(())
     }
 
     fn copy(&self) -> Result<Routing, AllocError> {

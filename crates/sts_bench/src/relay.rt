@@ -33,11 +33,15 @@ impl Controller for Relay {
         self.copy()
     }
 
-    fn handle(&mut self, item: &UpItem, out: &mut Outbox) -> Result<(), AllocError> {
+    fn send(&self, item: &UpItem, out: &mut Outbox) -> Result<(), AllocError> {
         match item {
             UpItem::FromSwitch(s, message) => self.answer(*s, message, out),
             UpItem::Gone(_) | UpItem::Policy(_) => Ok(()),
         }
+    }
+
+    fn hear(&mut self, _item: &UpItem, _sent: &[(u16, Message)]) -> Result<(), AllocError> {
+        Ok(())
     }
 
     fn copy(&self) -> Result<Relay, AllocError> {

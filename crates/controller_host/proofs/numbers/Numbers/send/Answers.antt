@@ -36,8 +36,6 @@ loop-s-preserved c =
     record {
       sent = ap (λ (o : List (ℕ × Message)). o ++ after) c.in_ok-send.ensures.ok ∙ append_assoc out ((s, c.give-numbered.result) ∷ []) after
           ∙ ap (λ (m : Message). out ++ (s, m) ∷ after) c.give-numbered.ensures.value ∙ ap (λ (n : Numbered). out ++ n.sent) (sym all) ∙ inv.sent;
-      xid = ap (λ (n : Numbered). n.xid) (sym all) ∙ inv.xid;
-      cookie = ap (λ (n : Numbered). n.cookie) (sym all) ∙ inv.cookie;
       valid = All-rest (λ (one : ℕ × Message). IsValidMessage one.1) (s, c.in-Some.message) rest c.loop-s.s-iterator.rest.items steps inv.valid;
       begun = extends_more c.args.out.now out ((s, c.give-numbered.result) ∷ []) c.send.new.self inv.begun c.in_ok-send.ensures.ok;
     }

@@ -8,8 +8,6 @@ use Rattle.controller_host.proofs.numbers.Numbers.send.Given as goal
 abbrev pub invariant-loop-s : goal.invariant-loop-s
 invariant-loop-s l = record {
   sent : l.out ++ (numbered l.numbers.xid l.numbers.cookie l.s-iterator.rest.items).sent ≡ l.fn.out ++ (numbered l.fn.self.xid l.fn.self.cookie l.fn.messages).sent;
-  xid : (numbered l.numbers.xid l.numbers.cookie l.s-iterator.rest.items).xid ≡ (numbered l.fn.self.xid l.fn.self.cookie l.fn.messages).xid;
-  cookie : (numbered l.numbers.xid l.numbers.cookie l.s-iterator.rest.items).cookie ≡ (numbered l.fn.self.xid l.fn.self.cookie l.fn.messages).cookie;
   valid : AreValidMessages l.s-iterator.rest.items;
   begun : Extends l.fn.out l.out;
 }
