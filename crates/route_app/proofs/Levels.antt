@@ -1,10 +1,10 @@
 -- A search by levels finds shortest paths, and the least ports that begin them.
-use Rattle.std.proofs.Common.{◌≡◌, ◌≢◌, ◌∙◌, ℕ, ◌+◌, ◌<◌, ◌≤◌, ◌==◌, ◌&&◌, ◌⊎◌, true, false, cond, List, [], ◌∷◌, Option, Some, None, Contains, IfSome, get_or, set, length, nat_lt, replicate, ap, arith, inl, inr, refl, sym, subst, zero, suc}
-use Rattle.std.proofs.lemmas.Bool.{and_cases, and_parts, cases_Bool, cases_eq, cases_lt, eqb-false, eqb-true, false≢true, ltb-false, ltb-true, true≢false}
+use Rattle.std.proofs.Common.{◌≡◌, ◌≢◌, ◌∙◌, ℕ, ◌+◌, ◌<◌, ◌≤◌, ◌==◌, ◌⊎◌, true, false, cond, List, [], ◌∷◌, Option, Some, None, Contains, IfSome, get_or, set, length, nat_lt, replicate, ap, arith, inl, inr, refl, sym, subst, zero, suc}
+use Rattle.std.proofs.lemmas.Bool.{and_cases, and_parts, cases_Bool, cases_eq, cases_lt, eqb-false, eqb-true, ltb-false, ltb-true, true≢false}
 use Rattle.std.proofs.lemmas.List.{get_or-replicate, get_or-set_other, get_or-set_same, length-replicate, length-set}
 use Rattle.std.specs.List.{range_with_len}
 use Rattle.route_app.specs.Paths.{Begins, Exit, Path}
-use Rattle.route_app.specs.Rounds.{after_round, is_at, is_better, is_nearer, visited}
+use Rattle.route_app.specs.Rounds.{after_round, at_home, is_better, visited}
 use Rattle.route_app.specs.Table.{IsReach, IsRow}
 use Rattle.route_app.specs.declared.reach.Reach.{Reach}
 use Rattle.route_app.proofs.Members.{contains_cases, contains_here, contains_none, contains_range, contains_there, length_range}
@@ -31,20 +31,55 @@ IsKnown exits b round left a (Some reach) = IsKnownWay exits b round left a reac
 abbrev pub IsKnownRow : List Exit → ℕ → ℕ → List Exit → List (Option Reach) → Type 0
 IsKnownRow exits b round left row = (a : ℕ) → a < length row → IsKnown exits b round left a (get_or row a None)
 
+-- a path of so many links is known
+abbrev pub IsAt : ℕ → Option Reach → Type 0
+IsAt level None = ⊥
+IsAt level (Some reach) = reach.links ≡ level
+
+-- no longer one is
+abbrev pub IsUpTo : ℕ → Option Reach → Type 0
+IsUpTo level o = IfSome o (λ (reach : Reach). reach.links ≤ level)
+
 -- no known path is longer
 abbrev pub IsBelow : ℕ → List (Option Reach) → Type 0
-IsBelow top row = (a : ℕ) → a < length row → IfSome (get_or row a None) (λ (reach : Reach). reach.links ≤ top)
+IsBelow top row = (a : ℕ) → a < length row → IsUpTo top (get_or row a None)
 
 -- the ways out lead from and to switches with numbers below
 abbrev pub AreInside : ℕ → List Exit → Type 0
 AreInside size exits = (e : Exit) → Contains exits e → (e.0 < size) × (e.2 < size)
 
--- what is found by so many rounds
-pub record IsFound (exits : List Exit) (b round : ℕ) (row : List (Option Reach)) : Type 0 where
-  pub known : IsKnownRow exits b round exits row
-  pub below : IsBelow round row
+-- some ways out of all lead to switches that are so far off
+pub record LeadThere (exits : List Exit) (round : ℕ) (left : List Exit) (row : List (Option Reach)) : Type 0 where
+  pub within : (e : Exit) → Contains left e → Contains exits e
+  pub there : (e : Exit) → Contains left e → IsAt round (get_or row e.2 None)
 
 -- ---- one way out
+
+-- what is known of a switch after a way out of it is looked at
+abbrev pub seen : ℕ → ℕ → Option Reach → Option Reach
+seen round p o = cond (is_better (round + 1) p o) (Some (record { links = round + 1; port = p })) o
+
+pub length_visited : (round : ℕ) (row : List (Option Reach)) (e : Exit) → length (visited round row e) ≡ length row
+length_visited round row e = elim (is_better (round + 1) e.1 (get_or row e.0 None)) as (λ t. length (cond t (set row e.0 (Some (record { links = round + 1; port = e.1 }))) row) ≡ length row) [ true ↦ length-set row e.0 _ | false ↦ refl ]
+
+pub visited_here : (round : ℕ) (row : List (Option Reach)) (e : Exit) → e.0 < length row → get_or (visited round row e) e.0 None ≡ seen round e.1 (get_or row e.0 None)
+visited_here round row e from =
+    let new : Option Reach = Some (record { links = round + 1; port = e.1 }) in
+    elim (is_better (round + 1) e.1 (get_or row e.0 None)) as (λ t. get_or (cond t (set row e.0 new) row) e.0 None ≡ cond t new (get_or row e.0 None)) [ true ↦ get_or-set_same row e.0 new None from | false ↦ refl ]
+
+pub visited_other : (round : ℕ) (row : List (Option Reach)) (e : Exit) (x : ℕ) → x ≢ e.0 → get_or (visited round row e) x None ≡ get_or row x None
+visited_other round row e x apart =
+    let new : Option Reach = Some (record { links = round + 1; port = e.1 }) in
+    elim (is_better (round + 1) e.1 (get_or row e.0 None)) as (λ t. get_or (cond t (set row e.0 new) row) x None ≡ get_or row x None) [ true ↦ get_or-set_other row e.0 x new None apart | false ↦ refl ]
+
+-- what holds of a switch after a look, where it is kept by one
+pub each_visited : (P : ℕ → Option Reach → Type 0) (round : ℕ) (row : List (Option Reach)) (e : Exit) (x : ℕ) → e.0 < length row
+    → (x ≡ e.0 → P e.0 (seen round e.1 (get_or row e.0 None))) → (x ≢ e.0 → P x (get_or row x None)) → P x (get_or (visited round row e) x None)
+each_visited P round row e x from here other =
+    elim (cases_eq x e.0) [
+      | inl same ↦ subst (λ (y : ℕ). P y (get_or (visited round row e) y None)) (sym same) (subst (P e.0) (sym (visited_here round row e from)) (here same))
+      | inr apart ↦ subst (P x) (sym (visited_other round row e x apart)) (other apart)
+    ]
 
 -- a way out that comes first in a list, or not
 first_or_later : (a p c q d : ℕ) (left : List Exit) → Contains ((a, p, c) ∷ left) (a, q, d) → ((p ≡ q) × (c ≡ d)) ⊎ Contains left (a, q, d)
@@ -69,32 +104,15 @@ other_known exits b round a p c left x (Some reach) apart known = record {
   least = λ n q d is at path. elim (known.least n q d is at path) [ inl less ↦ inl less | inr later ↦ inr (later.0, elsewhere a x p c q d left apart later.1) ];
 }
 
--- a switch of the last round, and one that is none
-leads : (exits : List Exit) (b round : ℕ) (left : List Exit) (c : ℕ) (o : Option Reach) → IsKnown exits b round left c o → is_at round o ≡ true → Path exits round c b
-leads exits b round left c None known test = absurd (false≢true test)
-leads exits b round left c (Some reach) known test = subst (λ (n : ℕ). Path exits n c b) (eqb-true reach.links round test) known.path
-
-shorter : (exits : List Exit) (b round : ℕ) (left : List Exit) (c : ℕ) (o : Option Reach) → IsKnown exits b round left c o → is_at round o ≡ false → Path exits round c b → (m : ℕ) × (m < round) × Path exits m c b
-shorter exits b round left c None known test path = absurd (known.far round (omega arith) path)
-shorter exits b round left c (Some reach) known test path =
-    let apart = eqb-false reach.links round test in
-    let few = known.fewest round path in
-    elim (cases_eq reach.links round) [ inl same ↦ absurd (apart same) | inr not ↦ (reach.links, omega arith, known.path) ]
+-- from a switch of the last round there is a path
+leads : (exits : List Exit) (b round : ℕ) (left : List Exit) (c : ℕ) (o : Option Reach) → IsKnown exits b round left c o → IsAt round o → Path exits round c b
+leads exits b round left c None known at = absurd at
+leads exits b round left c (Some reach) known at = subst (λ (n : ℕ). Path exits n c b) at known.path
 
 -- a way out that is no better
-skip_known : (exits : List Exit) (b round a p c : ℕ) (left : List Exit) (o there : Option Reach) → Contains exits (a, p, c) → IsKnown exits b round ((a, p, c) ∷ left) c there
-    → (is_at round there && is_better (round + 1) p o) ≡ false → IsKnown exits b round ((a, p, c) ∷ left) a o → IsKnown exits b round left a o
-skip_known exits b round a p c left None there in' next test known = record {
-  far = known.far;
-  later = λ q d at path. elim (first_or_later a p c q d left (known.later q d at path)) [
-    | inl same ↦
-        let not : is_at round there ≡ false = elim (and_cases (is_at round there) true test) [ inl first ↦ first | inr second ↦ absurd (true≢false second) ] in
-        let less = shorter exits b round ((a, p, c) ∷ left) c there next not (subst (λ (s : ℕ). Path exits round s b) (sym same.1) path) in
-        absurd (known.far (suc less.0) (omega arith) (p, c, in', less.2))
-    | inr later ↦ later
-  ];
-}
-skip_known exits b round a p c left (Some reach) there in' next test known = record {
+skip_known : (exits : List Exit) (b round a p c : ℕ) (left : List Exit) (o : Option Reach) → is_better (round + 1) p o ≡ false → IsKnown exits b round ((a, p, c) ∷ left) a o → IsKnown exits b round left a o
+skip_known exits b round a p c left None test known = absurd (true≢false test)
+skip_known exits b round a p c left (Some reach) test known = record {
   path = known.path;
   fewest = known.fewest;
   near = known.near;
@@ -102,15 +120,9 @@ skip_known exits b round a p c left (Some reach) there in' next test known = rec
   least = λ n q d is at path. elim (known.least n q d is at path) [
     | inl less ↦ inl less
     | inr more ↦ elim (first_or_later a p c q d left more.1) [
-      | inl same ↦ elim (and_cases (is_at round there) (reach.links == round + 1 && nat_lt p reach.port) test) [
-        | inl not ↦
-            let less = shorter exits b round ((a, p, c) ∷ left) c there next not (subst (λ (s : ℕ). Path exits round s b) (sym same.1) (subst (λ (k : ℕ). Path exits k d b) more.0 path)) in
-            let few = known.fewest (suc less.0) (p, c, in', less.2) in
-            absurd (omega arith)
-        | inr worse ↦ elim (and_cases (reach.links == round + 1) (nat_lt p reach.port) worse) [
-          | inl longer ↦ absurd (eqb-false reach.links (round + 1) longer (omega arith))
-          | inr above ↦ let low = ltb-false p reach.port above in inl (omega arith)
-        ]
+      | inl same ↦ elim (and_cases (reach.links == round + 1) (nat_lt p reach.port) test) [
+        | inl longer ↦ let last = more.0 in absurd (eqb-false reach.links (round + 1) longer (omega arith))
+        | inr above ↦ let low = ltb-false p reach.port above in let ports = same.0 in inl (omega arith)
       ]
       | inr later ↦ inr (more.0, later)
     ]
@@ -140,10 +152,9 @@ no_lesser exits b round a p c left (Some reach) known test q d at path =
     ]
 
 -- a way out that is better
-take_known : (exits : List Exit) (b round a p c : ℕ) (left : List Exit) (o there : Option Reach) → Contains exits (a, p, c) → IsKnown exits b round ((a, p, c) ∷ left) c there
-    → is_at round there ≡ true → is_better (round + 1) p o ≡ true → IsKnown exits b round ((a, p, c) ∷ left) a o → IsKnownWay exits b round left a (record { links = round + 1; port = p })
-take_known exits b round a p c left o there in' next at_end better known =
-    let on = leads exits b round ((a, p, c) ∷ left) c there next at_end in
+take_known : (exits : List Exit) (b round a p c : ℕ) (left : List Exit) (o : Option Reach) → Contains exits (a, p, c) → Path exits round c b → is_better (round + 1) p o ≡ true
+    → IsKnown exits b round ((a, p, c) ∷ left) a o → IsKnownWay exits b round left a (record { links = round + 1; port = p })
+take_known exits b round a p c left o in' on better known =
     let same : suc round ≡ round + 1 = omega arith in
     record {
       path = subst (λ (n : ℕ). Path exits n a b) same (p, c, in', on);
@@ -154,31 +165,22 @@ take_known exits b round a p c left o there in' next at_end better known =
           elim (no_lesser exits b round a p c left o known better q d at (subst (λ (k : ℕ). Path exits k d b) equal path)) [ inl less ↦ inl less | inr later ↦ inr (equal, later) ];
     }
 
-length_visited : (round : ℕ) (row : List (Option Reach)) (e : Exit) → length (visited round row e) ≡ length row
-length_visited round row e = elim (is_nearer round e row) as (λ t. length (cond t (set row e.0 (Some (record { links = round + 1; port = e.1 }))) row) ≡ length row) [ true ↦ length-set row e.0 _ | false ↦ refl ]
-
-pub visit_known : (exits : List Exit) (b round a p c : ℕ) (left : List Exit) (row : List (Option Reach)) → Contains exits (a, p, c) → a < length row → c < length row
-    → IsKnownRow exits b round ((a, p, c) ∷ left) row → IsKnownRow exits b round left (visited round row (a, p, c))
-visit_known exits b round a p c left row in' from next known x within =
-    let new : Option Reach = Some (record { links = round + 1; port = p }) in
-    let inside : x < length row = subst (λ (k : ℕ). x < k) (length_visited round row (a, p, c)) within in
-    elim (cases_Bool (is_nearer round (a, p, c) row)) [
-      | inl test ↦
-          let both = and_parts (is_at round (get_or row c None)) (is_better (round + 1) p (get_or row a None)) test in
-          rw test (elim (cases_eq x a) [
-            | inl same ↦
-                subst (λ (y : ℕ). IsKnown exits b round left y (get_or (set row a new) y None)) (sym same)
-                (rw (get_or-set_same row a new None from) (take_known exits b round a p c left (get_or row a None) (get_or row c None) in' (known c next) both.0 both.1 (known a from)))
-            | inr apart ↦ rw (get_or-set_other row a x new None apart) (other_known exits b round a p c left x (get_or row x None) apart (known x inside))
-          ])
-      | inr test ↦
-          rw test (elim (cases_eq x a) [
-            | inl same ↦
-                subst (λ (y : ℕ). IsKnown exits b round left y (get_or row y None)) (sym same)
-                (skip_known exits b round a p c left (get_or row a None) (get_or row c None) in' (known c next) test (known a from))
-            | inr apart ↦ other_known exits b round a p c left x (get_or row x None) apart (known x inside)
-          ])
+here_known : (exits : List Exit) (b round a p c : ℕ) (left : List Exit) (o : Option Reach) → Contains exits (a, p, c) → Path exits round c b → IsKnown exits b round ((a, p, c) ∷ left) a o
+    → IsKnown exits b round left a (seen round p o)
+here_known exits b round a p c left o in' on known =
+    elim (cases_Bool (is_better (round + 1) p o)) [
+      | inl test ↦ rw test (take_known exits b round a p c left o in' on test known)
+      | inr test ↦ rw test (skip_known exits b round a p c left o test known)
     ]
+
+visit_known : (exits : List Exit) (b round : ℕ) (e : Exit) (left : List Exit) (row : List (Option Reach)) → Contains exits e → e.0 < length row → e.2 < length row → IsAt round (get_or row e.2 None)
+    → IsKnownRow exits b round (e ∷ left) row → IsKnownRow exits b round left (visited round row e)
+visit_known exits b round e left row in' from next there known x within =
+    let inside : x < length row = subst (λ (k : ℕ). x < k) (length_visited round row e) within in
+    let on = leads exits b round (e ∷ left) e.2 (get_or row e.2 None) (known e.2 next) there in
+    each_visited (IsKnown exits b round left) round row e x from
+    (λ same. here_known exits b round e.0 e.1 e.2 left (get_or row e.0 None) in' on (known e.0 from))
+    (λ apart. other_known exits b round e.0 e.1 e.2 left x (get_or row x None) apart (known x inside))
 
 -- ---- one round
 
@@ -186,15 +188,31 @@ pub length_round : (round : ℕ) (left : List Exit) (row : List (Option Reach)) 
 length_round round [] row = refl
 length_round round (e ∷ left) row = length_round round left (visited round row e) ∙ length_visited round row e
 
-run_known : (exits : List Exit) (b round : ℕ) (left : List Exit) (row : List (Option Reach)) → ((e : Exit) → Contains left e → Contains exits e) → AreInside (length row) exits
+-- a switch of the last round is not changed
+stays_seen : (round p : ℕ) (o : Option Reach) → IsAt round o → IsAt round (seen round p o)
+stays_seen round p None at = absurd at
+stays_seen round p (Some reach) at =
+    elim (cases_Bool (is_better (round + 1) p (Some reach))) [
+      | inl test ↦ absurd (let longer = eqb-true reach.links (round + 1) (and_parts (reach.links == round + 1) (nat_lt p reach.port) test).0 in omega arith)
+      | inr test ↦ rw test at
+    ]
+
+pub stays_at : (round : ℕ) (row : List (Option Reach)) (e : Exit) (x : ℕ) → e.0 < length row → IsAt round (get_or row x None) → IsAt round (get_or (visited round row e) x None)
+stays_at round row e x from at =
+    each_visited (λ y o. IsAt round o) round row e x from (λ same. stays_seen round e.1 (get_or row e.0 None) (subst (λ (y : ℕ). IsAt round (get_or row y None)) same at)) (λ apart. at)
+
+run_known : (exits : List Exit) (b round : ℕ) (left : List Exit) (row : List (Option Reach)) → AreInside (length row) exits → LeadThere exits round left row
     → IsKnownRow exits b round left row → IsKnownRow exits b round [] (after_round round left row)
-run_known exits b round [] row within inside known = known
-run_known exits b round (e ∷ left) row within inside known =
-    let here = within e (contains_here e left) in
+run_known exits b round [] row inside lead known = known
+run_known exits b round (e ∷ left) row inside lead known =
+    let here = lead.within e (contains_here e left) in
     let ends = inside e here in
     let same = length_visited round row e in
-    run_known exits b round left (visited round row e) (λ x at. within x (contains_there e left x at)) (subst (λ (k : ℕ). AreInside k exits) (sym same) inside)
-    (visit_known exits b round e.0 e.1 e.2 left row here ends.0 ends.1 known)
+    run_known exits b round left (visited round row e) (subst (λ (k : ℕ). AreInside k exits) (sym same) inside) (record {
+      within = λ x at. lead.within x (contains_there e left x at);
+      there = λ x at. stays_at round row e x.2 ends.0 (lead.there x (contains_there e left x at));
+    })
+    (visit_known exits b round e left row here ends.0 ends.1 (lead.there e (contains_here e left)) known)
 
 far_on : (exits : List Exit) (b round a : ℕ) → IsUnknown exits b round [] a → (n : ℕ) → n ≤ round + 1 → Path exits n a b → ⊥
 far_on exits b round a known zero few path = known.far zero (omega arith) path
@@ -217,18 +235,40 @@ next_known exits b round a (Some reach) known = let near = known.near in record 
   least = λ n q c is at path. elim (known.least n q c is at path) [ inl less ↦ inl less | inr later ↦ absurd (contains_none (a, q, c) later.1) ];
 }
 
-near_below : (exits : List Exit) (b round : ℕ) (left : List Exit) (a : ℕ) (o : Option Reach) → IsKnown exits b round left a o → IfSome o (λ (reach : Reach). reach.links ≤ round + 1)
-near_below exits b round left a None known = tt
-near_below exits b round left a (Some reach) known = known.near
+-- the first link of a path of one more link than rounds were leads to a switch of the last round
+at_last : (exits : List Exit) (b round a p c : ℕ) (o : Option Reach) → IsKnown exits b round exits c o → IsUpTo round o → Contains exits (a, p, c) → Path exits round c b
+    → ((n : ℕ) → n ≤ round → Path exits n a b → ⊥) → IsAt round o
+at_last exits b round a p c None known below at path far = absurd (known.far round (omega arith) path)
+at_last exits b round a p c (Some reach) known below at path far =
+    elim (cases_eq reach.links round) [ inl same ↦ same | inr apart ↦ absurd (far (suc reach.links) (omega arith) (p, c, at, known.path)) ]
+
+start_round : (exits : List Exit) (b round : ℕ) (left : List Exit) (row : List (Option Reach)) (a : ℕ) (o : Option Reach) → AreInside (length row) exits → IsKnownRow exits b round exits row → IsBelow round row
+    → ((e : Exit) → Contains exits e → IsAt round (get_or row e.2 None) → Contains left e) → IsKnown exits b round exits a o → IsUpTo round o → IsKnown exits b round left a o
+start_round exits b round left row a None inside all below covers known up = record {
+  far = known.far;
+  later = λ p c at path.
+      let next : c < length row = (inside (a, p, c) at).1 in
+      covers (a, p, c) at (at_last exits b round a p c (get_or row c None) (all c next) (below c next) at path known.far);
+}
+start_round exits b round left row a (Some reach) inside all below covers known up = record {
+  path = known.path;
+  fewest = known.fewest;
+  near = known.near;
+  begins = known.begins;
+  least = λ n q c is at path. elim (known.least n q c is at path) [ inl less ↦ inl less | inr later ↦ let last = later.0 in absurd (omega arith) ];
+}
+
+-- only the ways out to the switches of the last round need to be looked at
+rest_known : (exits : List Exit) (b round : ℕ) (left : List Exit) (row : List (Option Reach)) → AreInside (length row) exits → IsKnownRow exits b round exits row → IsBelow round row
+    → ((e : Exit) → Contains exits e → IsAt round (get_or row e.2 None) → Contains left e) → IsKnownRow exits b round left row
+rest_known exits b round left row inside known below covers a within =
+    start_round exits b round left row a (get_or row a None) inside known below covers (known a within) (below a within)
 
 -- one more round was made
-pub round_found : (exits : List Exit) (b round : ℕ) (row : List (Option Reach)) → AreInside (length row) exits → IsFound exits b round row → IsFound exits b (round + 1) (after_round round exits row)
-round_found exits b round row inside found =
-    let done = run_known exits b round exits row (λ e at. at) inside found.known in
-    record {
-      known = λ a within. next_known exits b round a (get_or (after_round round exits row) a None) (done a within);
-      below = λ a within. near_below exits b round [] a (get_or (after_round round exits row) a None) (done a within);
-    }
+pub round_known : (exits : List Exit) (b round : ℕ) (left : List Exit) (row : List (Option Reach)) → AreInside (length row) exits → IsKnownRow exits b round exits row → IsBelow round row
+    → ((e : Exit) → Contains exits e → IsAt round (get_or row e.2 None) → Contains left e) → LeadThere exits round left row → IsKnownRow exits b (round + 1) exits (after_round round left row)
+round_known exits b round left row inside known below covers lead a within =
+    next_known exits b round a (get_or (after_round round left row) a None) (run_known exits b round left row inside lead (rest_known exits b round left row inside known below covers) a within)
 
 -- ---- the start and the end
 
@@ -239,36 +279,31 @@ none_near exits b a (suc n) apart few path = omega arith
 start_known : (exits : List Exit) (b a : ℕ) → a ≢ b → IsKnown exits b 0 exits a None
 start_known exits b a apart = record { far = λ n few path. none_near exits b a n apart few path; later = λ p c at path. at }
 
-pub start_found : (exits : List Exit) (b size : ℕ) → b < size → IsFound exits b 0 (set (replicate size None) b (Some (record { links = 0; port = 0 })))
-start_found exits b size within =
-    let blank : List (Option Reach) = replicate size None in
-    let home : Option Reach = Some (record { links = 0; port = 0 }) in
-    let long : length blank ≡ size = length-replicate size None in
-    let both : length (set blank b home) ≡ size = length-set blank b home ∙ long in
-    let inside : b < length blank = omega arith in
-    record {
-      known = λ a in'. elim (cases_eq a b) [
-        | inl same ↦ subst (λ (x : ℕ). IsKnown exits b 0 exits x (get_or (set blank b home) x None)) (sym same) (rw (get_or-set_same blank b home None inside) (record {
-          path = refl;
-          fewest = λ n path. omega arith;
-          near = omega arith;
-          begins = λ n is. absurd (omega arith);
-          least = λ n q c is at path. absurd (omega arith);
-        }))
-        | inr apart ↦
-            let less : a < size = omega arith in
-            rw (get_or-set_other blank b a home None apart, get_or-replicate {A = Option Reach} size a None None less) (start_known exits b a apart)
-      ];
-      below = λ a in'. elim (cases_eq a b) [
-        | inl same ↦ subst (λ (x : ℕ). IfSome (get_or (set blank b home) x None) (λ (reach : Reach). reach.links ≤ 0)) (sym same) (rw (get_or-set_same blank b home None inside) (omega arith))
-        | inr apart ↦
-            let less : a < size = omega arith in
-            rw (get_or-set_other blank b a home None apart, get_or-replicate {A = Option Reach} size a None None less) tt
-      ];
-    }
+pub length_first : (size b : ℕ) → length (at_home size b) ≡ size
+length_first size b = length-set (replicate size None) b _ ∙ length-replicate size None
+
+pub first_here : (size b : ℕ) → b < size → get_or (at_home size b) b None ≡ Some (record { links = 0; port = 0 })
+first_here size b within = let long : length (replicate {A = Option Reach} size None) ≡ size = length-replicate size None in get_or-set_same (replicate size None) b _ None (omega arith)
+
+pub first_other : (size b a : ℕ) → a < size → a ≢ b → get_or (at_home size b) a None ≡ None
+first_other size b a within apart = get_or-set_other (replicate size None) b a _ None apart ∙ get_or-replicate {A = Option Reach} size a None None within
+
+pub first_known : (exits : List Exit) (b size : ℕ) → b < size → IsKnownRow exits b 0 exits (at_home size b)
+first_known exits b size within a in' =
+    let less : a < size = subst (λ (k : ℕ). a < k) (length_first size b) in' in
+    elim (cases_eq a b) [
+      | inl same ↦ subst (λ (x : ℕ). IsKnown exits b 0 exits x (get_or (at_home size b) x None)) (sym same) (subst (IsKnown exits b 0 exits b) (sym (first_here size b within)) (record {
+        path = refl;
+        fewest = λ n path. omega arith;
+        near = omega arith;
+        begins = λ n is. absurd (omega arith);
+        least = λ n q c is at path. absurd (omega arith);
+      }))
+      | inr apart ↦ subst (IsKnown exits b 0 exits a) (sym (first_other size b a less apart)) (start_known exits b a apart)
+    ]
 
 -- after as many rounds as there are switches
-end_reach : (exits : List Exit) (b round size a : ℕ) (o : Option Reach) → AreInside size exits → size ≤ round → IsKnown exits b round exits a o → IfSome o (λ (reach : Reach). reach.links ≤ round) → IsReach exits b a o
+end_reach : (exits : List Exit) (b round size a : ℕ) (o : Option Reach) → AreInside size exits → size ≤ round → IsKnown exits b round exits a o → IsUpTo round o → IsReach exits b a o
 end_reach exits b round size a None inside enough known below = λ n path.
     let sources = range_with_len 0 size in
     let long : length sources ≡ size = length_range 0 size in
@@ -282,11 +317,11 @@ end_reach exits b round size a (Some reach) inside enough known below = record {
   least = λ n q is begins. elim (known.least n q begins.0 is begins.1 begins.2) [ inl less ↦ less | inr later ↦ let same = later.0 in absurd (omega arith) ];
 }
 
-pub end_row : (exits : List Exit) (b round : ℕ) (row : List (Option Reach)) → AreInside (length row) exits → length row ≤ round → IsFound exits b round row → IsRow exits b row
-end_row exits b round row inside enough found a within = end_reach exits b round (length row) a (get_or row a None) inside enough (found.known a within) (found.below a within)
+pub end_row : (exits : List Exit) (b round : ℕ) (row : List (Option Reach)) → AreInside (length row) exits → length row ≤ round → IsKnownRow exits b round exits row → IsBelow round row → IsRow exits b row
+end_row exits b round row inside enough known below a within = end_reach exits b round (length row) a (get_or row a None) inside enough (known a within) (below a within)
 
--- after a round that found nothing
-is_reached : (exits : List Exit) (b round : ℕ) (left : List Exit) (a : ℕ) (o : Option Reach) → IsKnown exits b round left a o → IfSome o (λ (reach : Reach). reach.links ≤ round)
+-- where no switch was found in the last round
+is_reached : (exits : List Exit) (b round : ℕ) (left : List Exit) (a : ℕ) (o : Option Reach) → IsKnown exits b round left a o → IsUpTo round o
     → (o ≡ None) ⊎ ((m : ℕ) × (m ≤ round) × Path exits m a b)
 is_reached exits b round left a None known below = inl refl
 is_reached exits b round left a (Some reach) known below = inr (reach.links, below, known.path)
@@ -316,7 +351,8 @@ same_reach exits b round a (Some reach) reached known = record {
   least = λ n q is begins. elim (known.least n q begins.0 is begins.1 begins.2) [ inl less ↦ less | inr later ↦ absurd (contains_none (a, q, begins.0) later.1) ];
 }
 
-pub same_row : (exits : List Exit) (b round : ℕ) (row : List (Option Reach)) → AreInside (length row) exits → IsFound exits b round row → after_round round exits row ≡ row → IsRow exits b row
-same_row exits b round row inside found same =
-    let known : IsKnownRow exits b round [] row = subst (IsKnownRow exits b round []) same (run_known exits b round exits row (λ e at. at) inside found.known) in
-    λ a within. same_reach exits b round a (get_or row a None) (λ n path. all_reached exits b round row inside known found.below n a within path) (known a within)
+pub done_row : (exits : List Exit) (b round : ℕ) (row : List (Option Reach)) → AreInside (length row) exits → IsKnownRow exits b round exits row → IsBelow round row
+    → ((a : ℕ) → a < length row → IsAt round (get_or row a None) → ⊥) → IsRow exits b row
+done_row exits b round row inside known below none a within =
+    let rest : IsKnownRow exits b round [] row = rest_known exits b round [] row inside known below (λ e at there. absurd (none e.2 (inside e at).1 there)) in
+    same_reach exits b round a (get_or row a None) (λ n path. all_reached exits b round row inside rest below n a within path) (rest a within)

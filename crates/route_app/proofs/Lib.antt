@@ -1,9 +1,12 @@
 pub mod Few
+pub mod Fronts
 pub mod Levels
 pub mod Members
 pub mod Named
 pub mod Numbered
 pub mod Places
+pub mod Search
 pub mod Shortest
 pub mod Tellings
-pub mod Wires
+pub mod Untouched
+pub mod WaysIn

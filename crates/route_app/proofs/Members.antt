@@ -1,5 +1,5 @@
 -- Elements of lists: of those that are kept, mapped, tested; the first number that passes a test, and the least of a list.
-use Rattle.std.proofs.Common.{◌≡◌, ◌∙◌, ℕ, ◌+◌, ◌<◌, ◌≤◌, ◌⊎◌, Bool, true, false, cond, List, [], ◌∷◌, Option, Some, None, Contains, filter, filter_map, length, map, min, fold, flat_map, zip, ap, arith, inl, inr, refl, sym, subst, zero, suc}
+use Rattle.std.proofs.Common.{◌≡◌, ◌∙◌, ℕ, ◌+◌, ◌<◌, ◌≤◌, ◌⊎◌, Bool, true, false, cond, List, [], ◌∷◌, Option, Some, None, Contains, filter, filter_map, length, map, min, fold, flat_map, ap, arith, inl, inr, refl, sym, subst, zero, suc}
 use Rattle.std.proofs.lemmas.Bool.{both_ways, cases_Bool, cases_eq, cases_lt, or_cases, or_left, or_right}
 use Rattle.std.proofs.lemmas.List.Elements.{Contains-append_cases}
 use Rattle.std.specs.List.{cons_option, find, list_any, range_with_len, reduce}
@@ -181,13 +181,4 @@ contains_joined f (x ∷ xs) y at =
     elim (Contains-append_cases (f x) (flat_map f xs) y at) [
       | inl here ↦ (x, contains_here x xs, here)
       | inr later ↦ let rest = contains_joined f xs y later in (rest.0, contains_there x xs rest.0 rest.1, rest.2)
-    ]
-
-pub contains_zipped : {X Y : Type 0} (xs : List X) (ys : List Y) (both : X × Y) → Contains (zip xs ys) both → Contains xs both.0
-contains_zipped [] ys both at = absurd (contains_none both at)
-contains_zipped (x ∷ xs) [] both at = absurd (contains_none both at)
-contains_zipped {X} {Y} (x ∷ xs) (y ∷ ys) both at =
-    elim (contains_cases (x, y) (zip xs ys) both at) [
-      | inl same ↦ (0, omega arith, ap (λ (pair : X × Y). pair.0) same)
-      | inr later ↦ contains_there x xs both.0 (contains_zipped xs ys both later)
     ]

@@ -3,14 +3,15 @@ use Rattle.std.proofs.Common.{◌≡◌, ◌≢◌, ◌∙◌, ℕ, ◌+◌, ◌
 use Rattle.std.proofs.lemmas.Bool.{cases_eq, cases_order}
 use Rattle.std.proofs.lemmas.List.{get_or_default}
 use Rattle.std.specs.List.{cons_option}
-use Rattle.route_app.specs.Paths.{Begins, Exit, IsHop, IsNextHop, Path, exits_of, next_hop}
+use Rattle.route_app.specs.Paths.{Begins, Exit, IsHop, IsNextHop, Path, exits_of, next_hop, up_of}
 use Rattle.route_app.specs.Routing.{Router, usable}
-use Rattle.route_app.specs.Table.{Ascends, IsReach, IsRouted, IsWay, named, up_of, ways}
+use Rattle.route_app.specs.Table.{Ascends, IsReach, IsRouted, IsWay, named, ways}
 use Rattle.route_app.specs.declared.reach.Reach.{Reach}
+use Rattle.route_app.specs.declared.reach.Rows.{Rows}
 use Rattle.route_app.proofs.Levels.{AreInside}
 use Rattle.route_app.proofs.Members.{contains_mapped, contains_none, contains_there, contains_cases, contains_here}
 use Rattle.route_app.proofs.Shortest.{is_next_hop, one_next_hop}
-use Rattle.route_app.proofs.Wires.{ways_inside}
+use Rattle.route_app.proofs.WaysIn.{ways_inside}
 
 abbrev Link : Type 0
 Link = ℕ × ℕ × ℕ × ℕ
@@ -147,37 +148,37 @@ reach_hop switches exits i j (Some reach) ascends inside one two apart is =
     hop_from switches exits i j (reach.links - 1) reach ascends inside one two apart (omega arith) is
 
 -- what is known of the ways out
-routed_ways : (links wires : List Link) (switches : List ℕ) (down : List (Bool × Bool)) (rows : List (List (Option Reach))) → IsRouted links wires switches down rows
+routed_ways : (links wires : List Link) (switches : List ℕ) (down : List (Bool × Bool)) (table : Rows) → IsRouted links wires switches down table
     → (map (named_exit switches) (ways wires down) ≡ ways links down) × AreInside (length switches) (ways wires down)
-routed_ways links wires switches down rows is =
+routed_ways links wires switches down table is =
     (sym (ways_named switches wires down) ∙ ap (λ (all : List Link). ways all down) is.numbered.same, ways_inside (length switches) wires down is.numbered.within)
 
 -- the table has the next hop between switches that have numbers
-pub hop_found : (links wires : List Link) (switches : List ℕ) (down : List (Bool × Bool)) (rows : List (List (Option Reach))) (a b i j : ℕ) → IsRouted links wires switches down rows → a ≢ b
-    → (i < length switches) × (get_or switches i 0 ≡ a) → (j < length switches) × (get_or switches j 0 ≡ b) → IsNextHop (ways links down) a b (port_of (get_or (get_or rows j []) i None))
-hop_found links wires switches down rows a b i j is apart one two =
-    let exits = routed_ways links wires switches down rows is in
-    let row : j < length rows = let long = is.square.0 in let within = two.0 in omega arith in
-    let width : length (get_or rows j []) ≡ length switches = is.square.1 j [] row in
-    let column : i < length (get_or rows j []) = let within = one.0 in omega arith in
-    let reach : IsReach (ways wires down) j i (get_or (get_or rows j []) i None) = is.right j row i column in
+pub hop_found : (links wires : List Link) (switches : List ℕ) (down : List (Bool × Bool)) (table : Rows) (a b i j : ℕ) → IsRouted links wires switches down table → a ≢ b
+    → (i < length switches) × (get_or switches i 0 ≡ a) → (j < length switches) × (get_or switches j 0 ≡ b) → IsNextHop (ways links down) a b (port_of (get_or (get_or table.rows j []) i None))
+hop_found links wires switches down table a b i j is apart one two =
+    let exits = routed_ways links wires switches down table is in
+    let row : j < length table.rows = let long = is.ready.made.square.0 in let within = two.0 in omega arith in
+    let width : length (get_or table.rows j []) ≡ length switches = is.ready.made.square.1 j [] row in
+    let column : i < length (get_or table.rows j []) = let within = one.0 in omega arith in
+    let reach : IsReach (ways wires down) j i (get_or (get_or table.rows j []) i None) = is.right j row i column in
     let not : get_or switches i 0 ≢ get_or switches j 0 = λ same. apart (sym one.1 ∙ same ∙ two.1) in
-    subst (λ (x : ℕ). IsNextHop (ways links down) x b (port_of (get_or (get_or rows j []) i None))) one.1
-    (subst (λ (y : ℕ). IsNextHop (ways links down) (get_or switches i 0) y (port_of (get_or (get_or rows j []) i None))) two.1
-    (subst (λ (all : List Exit). IsNextHop all (get_or switches i 0) (get_or switches j 0) (port_of (get_or (get_or rows j []) i None))) exits.0
-    (reach_hop switches (ways wires down) i j (get_or (get_or rows j []) i None) is.numbered.ascending exits.1 one.0 two.0 not reach)))
+    subst (λ (x : ℕ). IsNextHop (ways links down) x b (port_of (get_or (get_or table.rows j []) i None))) one.1
+    (subst (λ (y : ℕ). IsNextHop (ways links down) (get_or switches i 0) y (port_of (get_or (get_or table.rows j []) i None))) two.1
+    (subst (λ (all : List Exit). IsNextHop all (get_or switches i 0) (get_or switches j 0) (port_of (get_or (get_or table.rows j []) i None))) exits.0
+    (reach_hop switches (ways wires down) i j (get_or (get_or table.rows j []) i None) is.numbered.ascending exits.1 one.0 two.0 not reach)))
 
 -- there is none where one of them has no number
-pub none_from : (links wires : List Link) (switches : List ℕ) (down : List (Bool × Bool)) (rows : List (List (Option Reach))) (a b : ℕ) → IsRouted links wires switches down rows → a ≢ b
+pub none_from : (links wires : List Link) (switches : List ℕ) (down : List (Bool × Bool)) (table : Rows) (a b : ℕ) → IsRouted links wires switches down table → a ≢ b
     → (Contains switches a → ⊥) → IsNextHop (ways links down) a b None
-none_from links wires switches down rows a b is apart absent =
-    let exits = routed_ways links wires switches down rows is in
+none_from links wires switches down table a b is apart absent =
+    let exits = routed_ways links wires switches down table is in
     subst (λ (all : List Exit). IsNextHop all a b None) exits.0 (inr (λ n path. absent (begins_there switches (ways wires down) n a b exits.1 apart path)))
 
-pub none_to : (links wires : List Link) (switches : List ℕ) (down : List (Bool × Bool)) (rows : List (List (Option Reach))) (a b : ℕ) → IsRouted links wires switches down rows → a ≢ b
+pub none_to : (links wires : List Link) (switches : List ℕ) (down : List (Bool × Bool)) (table : Rows) (a b : ℕ) → IsRouted links wires switches down table → a ≢ b
     → (Contains switches b → ⊥) → IsNextHop (ways links down) a b None
-none_to links wires switches down rows a b is apart absent =
-    let exits = routed_ways links wires switches down rows is in
+none_to links wires switches down table a b is apart absent =
+    let exits = routed_ways links wires switches down table is in
     subst (λ (all : List Exit). IsNextHop all a b None) exits.0 (inr (λ n path. absent (ends_there switches (ways wires down) n a b exits.1 apart path)))
 
 -- what the relation allows is what the function gives

@@ -1,5 +1,5 @@
 -- Paths through a network over links that can be used, and the next hop on a shortest one.
-use Rattle.std.specs.Prelude.{◌≡◌, ◌≢◌, ℕ, ◌+◌, ◌-◌, ◌≤◌, ◌==◌, ◌&&◌, ◌⊎◌, List, [], ◌∷◌, length, flat_map, filter_map, min, Bool, Option, Some, None, option_and_then, if◌then◌else◌, Contains, zero, suc}
+use Rattle.std.specs.Prelude.{◌≡◌, ◌≢◌, ℕ, ◌+◌, ◌-◌, ◌≤◌, ◌==◌, ◌&&◌, ◌||◌, ◌⊎◌, List, [], ◌∷◌, length, flat_map, filter_map, min, zip, Bool, Option, Some, None, option_and_then, if◌then◌else◌, Contains, zero, suc}
 use Rattle.std.specs.List.{find, list_any, range_with_len, reduce}
 
 -- a way out of a switch: the switch, the port, and the switch at the other end of the link there
@@ -9,6 +9,10 @@ Exit = ℕ × ℕ × ℕ
 -- both ways of each link, in order
 abbrev pub exits_of : List (ℕ × ℕ × ℕ × ℕ) → List Exit
 exits_of links = flat_map (λ link. (link.0, link.1, link.2) ∷ (link.2, link.3, link.0) ∷ []) links
+
+-- the links of which neither end is told down
+abbrev pub up_of : List (ℕ × ℕ × ℕ × ℕ) → List (Bool × Bool) → List (ℕ × ℕ × ℕ × ℕ)
+up_of links down = filter_map (λ both. if both.1.0 || both.1.1 then None else Some both.0) (zip links down)
 
 -- there is a path of so many links from a switch to another
 abbrev pub Path : List Exit → ℕ → ℕ → ℕ → Type 0

@@ -1,5 +1,5 @@
 -- A routing application: what it keeps, the next hop, and how it reacts.
-use Rattle.std.specs.Prelude.{ℕ, ◌==◌, ◌||◌, ◌&&◌, ◌%◌, List, [], ◌∷◌, length, map, filter_map, fold, replicate, zip, Bool, false, Option, Some, None, option_and_then, if◌then◌else◌}
+use Rattle.std.specs.Prelude.{ℕ, ◌==◌, ◌&&◌, ◌%◌, List, [], ◌∷◌, length, map, fold, replicate, zip, Bool, false, Option, Some, None, option_and_then, if◌then◌else◌}
 use Rattle.std.specs.List.{find}
 use Rattle.std.specs.Option.{option_map_or}
 use Rattle.app_messages.specs.Sent.{Sighting, added, header_of, out_of, seen_in, sent_on}
@@ -11,7 +11,7 @@ use Rattle.of10_messages.specs.declared.message.Message.{Message}
 use Rattle.of10_messages.specs.declared.message.Message.TheVariants.{FeaturesReply, FlowMod, PortStatus}
 use Rattle.of10_messages.specs.declared.port.PortDesc.{PortDesc}
 use Rattle.topology.specs.Network.{is_place}
-use Rattle.route_app.specs.Paths.{exits_of, next_hop}
+use Rattle.route_app.specs.Paths.{exits_of, next_hop, up_of}
 use Rattle.route_app.specs.declared.map.Map.{Map}
 
 -- what a routing application keeps: whether it clears entries to a port told down, its network, and for each link whether its first
@@ -30,21 +30,29 @@ abbrev pub told_of_link : ℕ → ℕ → Bool → (ℕ × ℕ × ℕ × ℕ) ×
 told_of_link s p is_down (link, ends) =
     (if is_place s p (link.0, link.1) then is_down else ends.0, if is_place s p (link.2, link.3) then is_down else ends.1)
 
+-- which ends are told down, once a port is told down, or up
+abbrev pub told_ends : ℕ → ℕ → Bool → List (ℕ × ℕ × ℕ × ℕ) → List (Bool × Bool) → List (Bool × Bool)
+told_ends s p is_down links down = map (told_of_link s p is_down) (zip links down)
+
 -- a switch tells that a port of it is down, or up
 abbrev pub told : ℕ → ℕ → Bool → Router → Router
-told s p is_down router = record router { down = map (told_of_link s p is_down) (zip router.map.links router.down) }
+told s p is_down router = record router { down = told_ends s p is_down router.map.links router.down }
 
 -- a port says that its link is down by bit 0 of its state (OpenFlow 1.0.0 section 5.2.1)
 abbrev pub says_down : PortDesc → Bool
 says_down port = port.state % 2 == 1
 
--- each port that a switch lists, in order
+-- each port that a switch lists is, in order
+abbrev pub all_told_ends : ℕ → List PortDesc → List (ℕ × ℕ × ℕ × ℕ) → List (Bool × Bool) → List (Bool × Bool)
+all_told_ends s ports links down = fold (λ d port. told_ends s port.port_no (says_down port) links d) down ports
+
+-- a switch lists its ports
 abbrev pub told_all : ℕ → List PortDesc → Router → Router
-told_all s ports router = fold (λ r port. told s port.port_no (says_down port) r) router ports
+told_all s ports router = record router { down = all_told_ends s ports router.map.links router.down }
 
 -- the links of which neither end is told down
 abbrev pub usable : Router → List (ℕ × ℕ × ℕ × ℕ)
-usable router = filter_map (λ both. if both.1.0 || both.1.1 then None else Some both.0) (zip router.map.links router.down)
+usable router = up_of router.map.links router.down
 
 -- the next hop from a switch to another
 abbrev pub hop : Router → ℕ → ℕ → Option ℕ

@@ -1,13 +1,11 @@
 -- A table of the shortest ways between all switches, by their numbers.
-use Rattle.std.specs.Prelude.{◌≡◌, ℕ, ◌+◌, ◌<◌, ◌≤◌, ◌^◌, ◌||◌, List, [], length, map, filter_map, slice_index, slice_index_or, zip, All, Bool, Option, Some, None, if◌then◌else◌}
-use Rattle.route_app.specs.Paths.{Begins, Exit, Path, exits_of}
+use Rattle.std.specs.Prelude.{◌≡◌, ℕ, ◌+◌, ◌<◌, ◌≤◌, ◌^◌, List, [], length, map, slice_index, slice_index_or, All, Bool, Option, Some, None}
+use Rattle.route_app.specs.Paths.{Begins, Exit, Path, exits_of, up_of}
 use Rattle.route_app.specs.declared.reach.Reach.{Reach}
+use Rattle.route_app.specs.declared.reach.Rows.{Rows}
+use Rattle.route_app.specs.Ways.{AreWaysIn}
 
--- the links of which neither end is told down
-abbrev pub up_of : List (ℕ × ℕ × ℕ × ℕ) → List (Bool × Bool) → List (ℕ × ℕ × ℕ × ℕ)
-up_of links down = filter_map (λ both. if both.1.0 || both.1.1 then None else Some both.0) (zip links down)
-
--- their ways out, both of each
+-- the ways out of the links that can be used, both of each
 abbrev pub ways : List (ℕ × ℕ × ℕ × ℕ) → List (Bool × Bool) → List Exit
 ways links down = exits_of (up_of links down)
 
@@ -54,9 +52,22 @@ pub record IsNumbered (switches : List ℕ) (links wires : List (ℕ × ℕ × �
   pub within : AreWithin (length switches) wires
   pub same : map (named switches) wires ≡ links
 
+-- a table of so many rows and columns has what its search needs: the ways in to each switch, and room for all in the queue
+pub record IsMade (size : ℕ) (links : List (ℕ × ℕ × ℕ × ℕ)) (table : Rows) : Type 0 where
+  pub square : IsSquare size table.rows
+  pub switches : length table.ways_in ≡ size
+  pub ways_in : AreWaysIn (length links) links table.ways_in
+  pub room : size ≤ length table.queue.places
+
+-- and it is right for the links that could be used when it was filled last
+pub record IsReady (size : ℕ) (links : List (ℕ × ℕ × ℕ × ℕ)) (table : Rows) : Type 0 where
+  pub made : IsMade size links table
+  pub flags : length table.down ≡ length links
+  pub right : IsTable (ways links table.down) table.rows
+
 -- what a routing application holds: its switches are numbered, and its table is right for the links that can be used
-pub record IsRouted (links wires : List (ℕ × ℕ × ℕ × ℕ)) (switches : List ℕ) (down : List (Bool × Bool)) (rows : List (List (Option Reach))) : Type 0 where
+pub record IsRouted (links wires : List (ℕ × ℕ × ℕ × ℕ)) (switches : List ℕ) (down : List (Bool × Bool)) (table : Rows) : Type 0 where
   pub numbered : IsNumbered switches links wires
   pub flags : length down ≡ length links
-  pub square : IsSquare (length switches) rows
-  pub right : IsTable (ways wires down) rows
+  pub ready : IsReady (length switches) wires table
+  pub right : IsTable (ways wires down) table.rows

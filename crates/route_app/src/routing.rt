@@ -58,7 +58,7 @@ impl Routing {
         let switches = switches_of(alloc, map.links.as_slice())?;
         let wires = wires_of(alloc, switches.as_slice(), map.links.as_slice())?;
         let down = Listed::of(vec![in alloc; (false, false); map.links.len()]?);
-        let mut rows = empty_rows(alloc, switches.len())?;
+        let mut rows = empty_rows(alloc, switches.len(), wires.as_slice())?;
         fill(&mut rows, wires.as_slice(), down.as_slice());
         Ok(Routing {
             clear_on_down,

@@ -53,6 +53,13 @@ fn down() -> Message
     Message::port_status(0, OFPPR_MODIFY, port(1, true))
 }
 
+// Port 1 of a switch is up again.
+fn up() -> Message
+    ensures { IsValidMessage result }
+{
+    Message::port_status(0, OFPPR_MODIFY, port(1, false))
+}
+
 fn hear_down(app: &mut Routing, out: &mut Outbox) -> Result<(), AllocError> {
     app.handle(&UpItem::FromSwitch(40, down()), out)
 }
@@ -78,6 +85,12 @@ fn goes_round(app: &mut Routing, alloc: Global, out: &mut Outbox) -> Result<bool
     Ok(goes_by(app, 1) && sent(out, 3))
 }
 
+// What a link that is told up again changes: the next hop alone.
+fn goes_back(app: &mut Routing, out: &mut Outbox) -> Result<bool, AllocError> {
+    app.handle(&UpItem::FromSwitch(40, up()), out)?;
+    Ok(goes_by(app, 2) && sent(out, 3))
+}
+
 // Whether a copy and one that starts anew go by these ports.
 fn copies_go_by(app: &Routing, port: u16, first: u16) -> Result<bool, AllocError> {
     let copy = app.copy()?;
@@ -91,5 +104,6 @@ fn packets_go_the_other_way_round(rt: HostRuntime) -> Result<(), Fail> {
     let mut out = Outbox::new(rt.alloc());
     assert!(rt; goes_round(&mut app, rt.alloc(), &mut out)?);
     assert!(rt; copies_go_by(&app, 1, 2)?);
+    assert!(rt; goes_back(&mut app, &mut out)?);
     Ok(())
 }

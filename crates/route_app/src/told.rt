@@ -1,7 +1,6 @@
 //! Which ends of links are told down.
-ghost use Rattle.std.specs.Prelude.{◌≡◌, false, length};
-ghost use Rattle.route_app.specs.Ends.{all_told_ends, told_ends};
-ghost use Rattle.route_app.specs.Routing.{says_down, told_of_link};
+ghost use Rattle.std.specs.Prelude.{◌≡◌, ◌||◌, false, length};
+ghost use Rattle.route_app.specs.Routing.{all_told_ends, says_down, told_ends, told_of_link};
 ghost use Rattle.topology.specs.Network.{is_place};
 
 use crate::reach::Wire;
@@ -52,6 +51,13 @@ pub fn says_down(port: &PortDesc) -> bool
     ensures { result ≡ says_down port.now }
 {
     port.state & OFPPS_LINK_DOWN != 0
+}
+
+/// Whether an end of a link is told down.
+pub fn is_down(ends: (bool, bool)) -> bool
+    ensures { result ≡ (ends.0 || ends.1) }
+{
+    ends.0 || ends.1
 }
 
 // What is told of both ends of a link, once a port is told down or up.

@@ -1,11 +1,11 @@
 use Rattle.std.proofs.Common.{◌≡◌, length}
-use Rattle.route_app.specs.Table.{ways}
-use Rattle.route_app.proofs.Levels.{IsFound}
+use Rattle.route_app.proofs.Search.{IsSearched}
 use Rattle.route_app.proofs.rounds.fill_row.Given as goal
 
 -- what so many rounds find
 abbrev pub invariant-loop-round : goal.invariant-loop-round
 invariant-loop-round l = record {
-  length : length l.row ≡ length l.fn.row;
-  found : IsFound (ways l.wires l.down) l.to l.round l.row;
+  size : length l.row ≡ length l.fn.row;
+  places : length l.queue.places ≡ length l.fn.queue.places;
+  searched : IsSearched l.to l.start l.round l.ways_in l.down l.row l.queue;
 }

@@ -1,12 +1,15 @@
-use Rattle.std.proofs.Common.{◌≡◌, drop, false, length}
-use Rattle.route_app.specs.Rounds.{after_round}
-use Rattle.route_app.specs.Table.{ways}
+use Rattle.std.proofs.Common.{◌≡◌, ◌++◌, drop, length, take}
+use Rattle.route_app.specs.Rounds.{HasRoom, after_round, found, newly_found}
+use Rattle.route_app.specs.Ways.{leading_to}
 use Rattle.route_app.proofs.rounds.run_round.Given as goal
 
--- what is left to be looked at gives the whole round
+-- the switches that are left give the whole round
 abbrev pub invariant-loop-at : goal.invariant-loop-at
 invariant-loop-at l = record {
-  rest : after_round l.round (ways (drop l.at l.wires) (drop l.at l.down)) l.row ≡ after_round l.round (ways l.wires l.down) l.fn.row;
-  length : length l.row ≡ length l.fn.row;
-  nothing : l.found ≡ false → l.row ≡ l.fn.row;
+  rest : after_round l.round (leading_to l.ways_in l.down (drop l.at (found l.fn.queue))) l.row ≡ after_round l.round (leading_to l.ways_in l.down (drop l.start (found l.fn.queue))) l.fn.row;
+  queue : found l.queue ++ newly_found l.round (leading_to l.ways_in l.down (drop l.at (found l.fn.queue))) l.row ≡ found l.fn.queue ++ newly_found l.round (leading_to l.ways_in l.down (drop l.start (found l.fn.queue))) l.fn.row;
+  before : take l.fn.queue.len (found l.queue) ≡ found l.fn.queue;
+  size : length l.row ≡ length l.fn.row;
+  room : HasRoom l.row l.queue;
+  places : length l.queue.places ≡ length l.fn.queue.places;
 }

@@ -1,5 +1,5 @@
 use Rattle.std.proofs.Common.{◌≡◌, ◌++◌, drop, false, length, take}
-use Rattle.route_app.specs.Ends.{told_ends}
+use Rattle.route_app.specs.Routing.{told_ends}
 use Rattle.route_app.proofs.told.tell.Given as goal
 
 -- the links so far have what is told, and the others will

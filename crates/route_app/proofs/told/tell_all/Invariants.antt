@@ -1,5 +1,5 @@
 use Rattle.std.proofs.Common.{◌≡◌, drop, false, length}
-use Rattle.route_app.specs.Ends.{all_told_ends}
+use Rattle.route_app.specs.Routing.{all_told_ends}
 use Rattle.route_app.proofs.told.tell_all.Given as goal
 
 -- the ports that are left give the whole
