@@ -1,19 +1,21 @@
 -- A history and the one that is longer by an entry.
-use Rattle.std.proofs.Common.{◌≡◌, ℕ, ◌+◌, ◌≤◌, List, [], ◌∷◌, ◌++◌, length, map, take, slice_get, Option, Some, None, if◌then◌else◌, ◌==◌, refl, ap, sym, ◌∙◌, subst, arith, inl, inr}
+use Rattle.std.proofs.Common.{◌≡◌, ℕ, ◌+◌, ◌-◌, ◌<◌, ◌≤◌, zero, suc, List, [], ◌∷◌, ◌++◌, length, map, take, slice_get, Option, Some, None, if◌then◌else◌, ◌==◌, refl, ap, sym, ◌∙◌, subst, arith, inl, inr}
 use Rattle.std.specs.List.{fold, count_by}
 use Rattle.std.specs.Option.{option_map_or}
-use Rattle.std.proofs.lemmas.List.{take_more, map-append, length-take}
+use Rattle.std.proofs.lemmas.List.{take_more, map-append, length-append, length-take, take-append-le}
 use Rattle.std.proofs.lemmas.List.Sums.{fold-append, sum_by_push, count_by-le-length}
-use Rattle.std.proofs.lemmas.Option.{get_or_from_slice_get, slice_get_within, same_Some}
+use Rattle.std.proofs.lemmas.Option.{get_or_from_slice_get, slice_get_cases, slice_get_within, same_Some}
 use Rattle.std.proofs.lemmas.Bool.{cases_lt}
 use Rattle.controller_api.specs.Reaction.{Reaction}
 use Rattle.controller_api.specs.declared.item.UpItem.{UpItem}
 use Rattle.machine_setup.specs.declared.script.Line.{Line}
 use Rattle.machine_setup.specs.declared.setup.Setup.{Setup}
 use Rattle.message_pools.specs.declared.item.Item.{Item}
+use Rattle.pool_book.specs.Blocks.{at_right, which_part}
 use Rattle.pool_book.specs.declared.name.PoolName.{PoolName}
 use Rattle.pool_book.specs.declared.name.PoolName.TheVariants as pool
 use Rattle.topology.specs.declared.network.Topology.{Topology}
+use Rattle.event_world.specs.Events.{input_count}
 use Rattle.event_world.specs.Fits.{Fits}
 use Rattle.event_world.specs.World.{Situation, acted, at_controller, at_switch, first_item, happened, heard_by, next, start, with_item, with_line}
 use Rattle.event_world.specs.declared.event.Event.{Event}
@@ -29,7 +31,7 @@ use Rattle.event_machine.specs.declared.trace.Trace.{Trace}
 -- ---- the front of a history
 
 -- the front that is longer by one
-front_more : (entries : List Entry) (at : ℕ) (entry : Entry) → slice_get entries at ≡ Some entry → take (at + 1) entries ≡ take at entries ++ entry ∷ []
+pub front_more : (entries : List Entry) (at : ℕ) (entry : Entry) → slice_get entries at ≡ Some entry → take (at + 1) entries ≡ take at entries ++ entry ∷ []
 front_more entries at entry e = take_more entries at entry (slice_get_within entries at entry e) ∙ ap (λ x. take at entries ++ x ∷ []) (get_or_from_slice_get entries at entry entry e)
 
 earlier_more : (entries : List Entry) (at : ℕ) (entry : Entry) (worker : ℕ) → slice_get entries at ≡ Some entry → earlier_of entries (at + 1) worker ≡ earlier_of entries at worker + (if entry.worker == worker then 1 else 0)
@@ -44,50 +46,94 @@ earlier_within entries at worker =
     let cut = length-take at entries in
     omega arith
 
+-- ---- a history that goes on
+
+-- an entry of its front
+get_front : (entries more : List Entry) (at : ℕ) (entry : Entry) → at < length entries → slice_get (entries ++ more) at ≡ Some entry → slice_get entries at ≡ Some entry
+get_front entries more at entry below there = elim (which_part entries more (length entries) at entry refl there) [
+  | inl here ↦ here
+  | inr later ↦ let past = later.1 in absurd (omega arith)
+]
+
+get_last : (entries : List Entry) (entry : Entry) → slice_get (entries ++ entry ∷ []) (length entries) ≡ Some entry
+get_last entries entry = at_right entries (entry ∷ []) (length entries) 0 (length entries) refl (omega arith)
+
+length_on : (entries : List Entry) (entry : Entry) → length (entries ++ entry ∷ []) ≡ length entries + 1
+length_on entries entry = length-append entries (entry ∷ [])
+
+earlier_front : (entries more : List Entry) (at worker : ℕ) → at ≤ length entries → earlier_of (entries ++ more) at worker ≡ earlier_of entries at worker
+earlier_front entries more at worker within = ap (λ (front : List Entry). count_by (λ entry. entry.worker == worker) front) (take-append-le at entries more within)
+
+-- ---- from a place to the end
+
+along_for : (P : ℕ → Type 0) (entries : List Entry) (from more : ℕ) → from + more ≤ length entries → P from
+    → ((at : ℕ) (entry : Entry) → from ≤ at → slice_get entries at ≡ Some entry → P at → P (at + 1)) → P (from + more)
+along_for P entries from zero within here goes = let same : from ≡ from + 0 = omega arith in subst P same here
+along_for P entries from (suc more) within here goes = elim (slice_get_cases entries (from + more)).1 [
+  | inl (entry, below, there, read) ↦
+      let same : from + more + 1 ≡ from + suc more = omega arith in
+      subst P same (goes (from + more) entry (omega arith) there (along_for P entries from more (omega arith) here goes))
+  | inr (past, none) ↦ absurd (omega arith)
+]
+
+-- what holds before the entry at a place, and goes on with each entry from there on, holds at the end
+pub along : (P : ℕ → Type 0) (entries : List Entry) (from : ℕ) → from ≤ length entries → P from
+    → ((at : ℕ) (entry : Entry) → from ≤ at → slice_get entries at ≡ Some entry → P at → P (at + 1)) → P (length entries)
+along P entries from within here goes =
+    let same : from + (length entries - from) ≡ length entries = omega arith in
+    subst P same (along_for P entries from (length entries - from) (omega arith) here goes)
+
 module _ {C : Type 0} (react : C → UpItem → Reaction C) where
-  -- ---- the number of events
+  -- ---- the numbers of events and of inputs
 
-  -- what is done where something is found, and leaves the number of events, leaves it where nothing is found too
-  found_events : {A : Type 0} (does : A → Situation C) (world : Situation C) (found : Option A) → ((x : A) → (does x).shared.events ≡ world.shared.events)
-      → (option_map_or does found world).shared.events ≡ world.shared.events
-  found_events does world None stays = refl
-  found_events does world (Some x) stays = stays x
+  -- how many events a world has behind it, and how many of them were inputs
+  abbrev counts : Situation C → ℕ × ℕ
+  counts world = (world.shared.events, world.shared.inputs)
 
-  switch_events : (topology : Topology) (name : PoolName) (item : Item) (s : ℕ) (world : Situation C) → (at_switch react topology name item s world).shared.events ≡ world.shared.events
-  switch_events topology name item s world = found_events _ world (slice_get world.switches s) (λ state. refl)
+  -- what is done where something is found, and leaves the counts, leaves them where nothing is found too
+  found_counts : {A : Type 0} (does : A → Situation C) (world : Situation C) (found : Option A) → ((x : A) → counts (does x) ≡ counts world) → counts (option_map_or does found world) ≡ counts world
+  found_counts does world None stays = refl
+  found_counts does world (Some x) stays = stays x
 
-  controller_events : (topology : Topology) (item : Option UpItem) (c : ℕ) (world : Situation C) → (at_controller react topology item c world).shared.events ≡ world.shared.events
-  controller_events topology None c world = refl
-  controller_events topology (Some item) c world = found_events _ world (slice_get world.controllers c) (λ state. refl)
+  switch_counts : (topology : Topology) (name : PoolName) (item : Item) (s : ℕ) (world : Situation C) → counts (at_switch react topology name item s world) ≡ counts world
+  switch_counts topology name item s world = found_counts _ world (slice_get world.switches s) (λ state. refl)
 
-  acted_events : (topology : Topology) (name : PoolName) (item : Item) (world : Situation C) → (acted react topology name item world).shared.events ≡ world.shared.events
-  acted_events topology (pool.Ctl s) item world = switch_events topology (pool.Ctl s) item s world
-  acted_events topology (pool.Pkt s p) item world = switch_events topology (pool.Pkt s p) item s world
-  acted_events topology (pool.Note s) item world = switch_events topology (pool.Note s) item s world
-  acted_events topology (pool.App c s) item world = controller_events topology (heard_by (pool.App c s) item) c world
-  acted_events topology (pool.Admin c) item world = controller_events topology (heard_by (pool.Admin c) item) c world
-  acted_events topology (pool.Recv h) item world = refl
+  controller_counts : (topology : Topology) (item : Option UpItem) (c : ℕ) (world : Situation C) → counts (at_controller react topology item c world) ≡ counts world
+  controller_counts topology None c world = refl
+  controller_counts topology (Some item) c world = found_counts _ world (slice_get world.controllers c) (λ state. refl)
 
-  item_events : (topology : Topology) (name : PoolName) (head : Option (ℕ × Item)) (world : Situation C) → (with_item react topology name head world).shared.events ≡ world.shared.events
-  item_events topology name None world = refl
-  item_events topology name (Some head) world = acted_events topology name head.1 _
+  acted_counts : (topology : Topology) (name : PoolName) (item : Item) (world : Situation C) → counts (acted react topology name item world) ≡ counts world
+  acted_counts topology (pool.Ctl s) item world = switch_counts topology (pool.Ctl s) item s world
+  acted_counts topology (pool.Pkt s p) item world = switch_counts topology (pool.Pkt s p) item s world
+  acted_counts topology (pool.Note s) item world = switch_counts topology (pool.Note s) item s world
+  acted_counts topology (pool.App c s) item world = controller_counts topology (heard_by (pool.App c s) item) c world
+  acted_counts topology (pool.Admin c) item world = controller_counts topology (heard_by (pool.Admin c) item) c world
+  acted_counts topology (pool.Recv h) item world = refl
 
-  line_events : (topology : Topology) (line : Option Line) (world : Situation C) → (with_line react topology line world).shared.events ≡ world.shared.events
-  line_events topology None world = refl
-  line_events topology (Some line) world = refl
+  item_counts : (topology : Topology) (name : PoolName) (head : Option (ℕ × Item)) (world : Situation C) → counts (with_item react topology name head world) ≡ counts world
+  item_counts topology name None world = refl
+  item_counts topology name (Some head) world = acted_counts topology name head.1 _
 
-  happened_events : (setup : Setup C) (world : Situation C) (event : Event) → (happened react setup world event).shared.events ≡ world.shared.events
-  happened_events setup world (event.In position) = line_events setup.topology (slice_get setup.script position) world
-  happened_events setup world (event.Ctl s item) = item_events setup.topology (pool.Ctl s) (first_item (pool.Ctl s) world.shared) world
-  happened_events setup world (event.Pkt s p item) = item_events setup.topology (pool.Pkt s p) (first_item (pool.Pkt s p) world.shared) world
-  happened_events setup world (event.Note s item) = item_events setup.topology (pool.Note s) (first_item (pool.Note s) world.shared) world
-  happened_events setup world (event.App c s item) = item_events setup.topology (pool.App c s) (first_item (pool.App c s) world.shared) world
-  happened_events setup world (event.Admin c item) = item_events setup.topology (pool.Admin c) (first_item (pool.Admin c) world.shared) world
-  happened_events setup world (event.Recv h item) = item_events setup.topology (pool.Recv h) (first_item (pool.Recv h) world.shared) world
+  line_counts : (topology : Topology) (line : Option Line) (world : Situation C) → counts (with_line react topology line world) ≡ counts world
+  line_counts topology None world = refl
+  line_counts topology (Some line) world = refl
+
+  happened_counts : (setup : Setup C) (world : Situation C) (event : Event) → counts (happened react setup world event) ≡ counts world
+  happened_counts setup world (event.In position) = line_counts setup.topology (slice_get setup.script position) world
+  happened_counts setup world (event.Ctl s item) = item_counts setup.topology (pool.Ctl s) (first_item (pool.Ctl s) world.shared) world
+  happened_counts setup world (event.Pkt s p item) = item_counts setup.topology (pool.Pkt s p) (first_item (pool.Pkt s p) world.shared) world
+  happened_counts setup world (event.Note s item) = item_counts setup.topology (pool.Note s) (first_item (pool.Note s) world.shared) world
+  happened_counts setup world (event.App c s item) = item_counts setup.topology (pool.App c s) (first_item (pool.App c s) world.shared) world
+  happened_counts setup world (event.Admin c item) = item_counts setup.topology (pool.Admin c) (first_item (pool.Admin c) world.shared) world
+  happened_counts setup world (event.Recv h item) = item_counts setup.topology (pool.Recv h) (first_item (pool.Recv h) world.shared) world
 
   -- each event counts for one
-  next_events : (setup : Setup C) (world : Situation C) (event : Event) → (next react setup world event).shared.events ≡ world.shared.events + 1
-  next_events setup world event = ap (λ (n : ℕ). n + 1) (happened_events setup world event)
+  pub next_events : (setup : Setup C) (world : Situation C) (event : Event) → (next react setup world event).shared.events ≡ world.shared.events + 1
+  next_events setup world event = ap (λ (both : ℕ × ℕ). both.0 + 1) (happened_counts setup world event)
+
+  -- and each input for one more
+  pub next_inputs : (setup : Setup C) (world : Situation C) (event : Event) → (next react setup world event).shared.inputs ≡ world.shared.inputs + input_count event
+  next_inputs setup world event = ap (λ (both : ℕ × ℕ). both.1 + input_count event) (happened_counts setup world event)
 
   module _ (first : C → C) where
     -- ---- one more entry
@@ -112,6 +158,43 @@ module _ {C : Type 0} (react : C → UpItem → Reaction C) where
           subst (λ (n : ℕ). IsLegalIn setup (world_before react first setup entries n) n other × IsNextOfWorker entries n other) (sym same)
           (subst (λ (x : Entry). IsLegalIn setup (world_before react first setup entries place) place x × IsNextOfWorker entries place x) equal (legal, number))
     ]
+
+    -- ---- a history that goes on
+
+    -- before an entry nothing counts that comes after it
+    pub world_front : (setup : Setup C) (entries more : List Entry) (at : ℕ) → at ≤ length entries → world_before react first setup (entries ++ more) at ≡ world_before react first setup entries at
+    world_front setup entries more at within = ap (λ (front : List Entry). fold (next react setup) (start first setup) (map (λ entry. entry.event) front)) (take-append-le at entries more within)
+
+    sound_front : (setup : Setup C) (entries more : List Entry) → IsSoundTo react first setup entries (length entries) → IsSoundTo react first setup (entries ++ more) (length entries)
+    sound_front setup entries more sound = λ at entry below there.
+        let known = sound at entry below (get_front entries more at entry below there) in
+        let same = world_front setup entries more at (omega arith) in
+        (subst (λ (w : Situation C). IsLegalIn setup w at entry) (sym same) known.0, known.1 ∙ sym (earlier_front entries more at entry.worker (omega arith)))
+
+    -- A sound history stays sound by an entry that may stand next, with its worker's next number.
+    pub sound_on : (setup : Setup C) (entries : List Entry) (entry : Entry) → IsSoundTo react first setup entries (length entries)
+        → IsLegalIn setup (world_before react first setup entries (length entries)) (length entries) entry → IsNextOfWorker entries (length entries) entry
+        → IsSoundTo react first setup (entries ++ entry ∷ []) (length (entries ++ entry ∷ []))
+    sound_on setup entries entry sound legal number =
+        let whole : List Entry = entries ++ entry ∷ [] in
+        let within : length entries ≤ length entries = omega arith in
+        let same = world_front setup entries (entry ∷ []) (length entries) within in
+        subst (λ n. IsSoundTo react first setup whole n) (sym (length_on entries entry))
+        (sound_more setup whole (length entries) entry (get_last entries entry) (sound_front setup entries (entry ∷ []) sound)
+        (subst (λ (w : Situation C). IsLegalIn setup w (length entries) entry) (sym same) legal)
+        (number ∙ sym (earlier_front entries (entry ∷ []) (length entries) entry.worker within)))
+
+    -- it comes to the next world
+    pub world_on : (setup : Setup C) (entries : List Entry) (entry : Entry) → world_before react first setup (entries ++ entry ∷ []) (length (entries ++ entry ∷ [])) ≡ next react setup (world_before react first setup entries (length entries)) entry.event
+    world_on setup entries entry =
+        ap (world_before react first setup (entries ++ entry ∷ [])) (length_on entries entry)
+        ∙ world_more setup (entries ++ entry ∷ []) (length entries) entry (get_last entries entry)
+        ∙ ap (λ (w : Situation C). next react setup w entry.event) (world_front setup entries (entry ∷ []) (length entries) (omega arith))
+
+    -- a history has as many events as entries
+    pub events_all : (setup : Setup C) (entries : List Entry) → (world_before react first setup entries (length entries)).shared.events ≡ length entries
+    events_all setup entries = along (λ at. (world_before react first setup entries at).shared.events ≡ at) entries 0 (omega arith) refl
+        (λ at entry low here known. ap (λ (w : Situation C). w.shared.events) (world_more setup entries at entry here) ∙ next_events setup (world_before react first setup entries at) entry.event ∙ ap (λ n. n + 1) known)
 
     -- ---- a walk along a history
 

@@ -1,3 +1,6 @@
+pub mod FirstEvents
 pub mod Histories
+pub mod Lines
 pub mod OneStep
+pub mod OneThread
 pub mod OwnEntries

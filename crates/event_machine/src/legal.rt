@@ -161,8 +161,8 @@ fn ends_as<C: Controller>(world: &World<C>, setup: &Setup<C>, events: usize, end
     }
 }
 
-// Whether the script is used up, and nothing waits.
-fn is_done<C: Controller>(world: &World<C>, setup: &Setup<C>) -> bool
+/// Whether the script is used up, and nothing waits.
+pub fn is_done<C: Controller>(world: &World<C>, setup: &Setup<C>) -> bool
     ensures { IsTrue result ↔ IsDone setup.now world.now }
 {
     world.inputs() as usize == setup.script.len() && world.quiet()

@@ -7,7 +7,7 @@ mod numbers;
 mod trace;
 
 pub use event_world::{Actor, Event, NetState, PoolName, StepNo, Tables, World};
-pub use legal::{LogNo, check_legal};
+pub use legal::{LogNo, check_legal, is_done};
 pub use machine_setup::{
     Controllers, Input, Limits, Line, Preset, Presets, Script, Setup, SwitchPresets,
 };
