@@ -1,0 +1,4 @@
+pub mod Atoms
+pub mod Cutting
+pub mod Ddmin
+pub mod Steps
