@@ -1,0 +1,12 @@
+pub mod AlikeReaction
+pub mod AlikeStep
+pub mod AlikeTables
+pub mod Enabled
+pub mod Leavings
+pub mod Pushed
+pub mod Reached
+pub mod Segments
+pub mod Through
+pub mod Uniqueness
+pub mod Waiting
+pub mod Whole

@@ -1,0 +1,4 @@
+pub mod AlikeHosts
+pub mod Congruence
+pub mod Going
+pub mod Replay
