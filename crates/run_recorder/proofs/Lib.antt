@@ -1,0 +1,10 @@
+pub mod Goes
+pub mod Offers
+pub mod OwnCount
+pub mod RestGoes
+pub mod Gathering
+pub mod Owners
+pub mod Dealing
+pub mod Actors
+pub mod Due
+pub mod Turns

@@ -1,0 +1,21 @@
+//! Recording: one run of the machine that many workers make together, one turn at a time.
+#![tactic(auto)]
+
+mod answers;
+mod begun;
+mod book;
+mod gate;
+pub mod laws;
+mod part;
+mod recorder;
+mod task;
+
+pub use answers::{Committed, Offered};
+pub use book::Subject;
+pub use gate::{Gate, OpenGate};
+pub use part::{Part, Parts};
+pub use recorder::Recorder;
+pub use task::{Deed, Task};
+
+#[cfg(test)]
+mod tests;
