@@ -1,5 +1,5 @@
 -- Bytes have one answer.
-use Rattle.std.proofs.Common.{◌≡◌, ℕ, ◌<◌, List, length, slice_get, Some, Ok, Err, refl, sym, ◌∙◌, ap, subst, inl, inr}
+use Rattle.std.proofs.Common.{◌≡◌, ℕ, ◌<◌, Bool, List, length, slice_get, Some, Ok, Err, refl, sym, ◌∙◌, ap, ap₂, subst, inl, inr}
 use Rattle.std.proofs.lemmas.Option.{slice_get_within}
 use Rattle.std.proofs.lemmas.Bool.{cases_order}
 use Rattle.controller_api.specs.Reaction.{Reaction}
@@ -11,13 +11,15 @@ use Rattle.event_machine.specs.declared.legal.LogNo.TheVariants.{NotLegal, Worke
 use Rattle.event_machine.specs.declared.trace.Entry.{Entry}
 use Rattle.event_machine.specs.declared.trace.Trace.{Trace}
 use Rattle.event_machine.specs.Legal.{IsLegalIn, IsSoundTo, IsLegalRun, IsWrong, IsFirstWrong, IsWrongEntry, earlier_of, world_before}
-use Rattle.controller_host.specs.Hosting.{hosting, starting}
+use Rattle.controller_host.specs.Hosting.{Hosting, hosting, starting}
 use Rattle.doc_forms.specs.Texts.{IsRefused, IsText, rooted}
 use Rattle.doc_forms.specs.declared.fail.DocFail.TheVariants.{Refused}
 use Rattle.log_doc.specs.declared.log.Log.{Log}
 use Rattle.log_doc.specs.Log.{log_of}
+use Rattle.causal_replay.specs.Replay.{IsReplay}
+use Rattle.causal_replay.specs.declared.replayed.Taken.{Taken}
 use Rattle.sts_cli.specs.Lines.{replay_text, refused_line, wrong_line}
-use Rattle.sts_cli.specs.Answer.{IsAnswer, IsReplay, IsRefusal, IsIllegal}
+use Rattle.sts_cli.specs.Answer.{IsAnswer, IsReplayed, IsWholeReplay, IsRefusal, IsIllegal, all_kept}
 
 -- the bytes are one log at most
 one_log : (bytes : List ℕ) (l m : Log) → IsText log_of bytes l → IsText log_of bytes m → l ≡ m
@@ -141,8 +143,22 @@ module _ {C : Type 0} where
 abbrev Same : ℕ → ℕ → List ℕ → List ℕ → Type 0
 Same code other text more = (code ≡ other) × (text ≡ more)
 
-one_replay : (bytes text more : List ℕ) → IsReplay bytes text → IsReplay bytes more → text ≡ more
-one_replay bytes text more a b = a.3 ∙ ap replay_text (one_log bytes a.0 b.0 a.1 b.1) ∙ sym b.3
+-- entries have at most one replay for each choice of lines
+abbrev IsDetermined : Type 0
+IsDetermined = (setup : Setup Hosting) (entries : List Entry) (keep : List Bool) (run other_run : List Taken) (absent other_absent : List ℕ) (world other_world : Situation Hosting)
+    → IsReplay hosting starting setup entries keep run absent world → IsReplay hosting starting setup entries keep other_run other_absent other_world
+    → (run ≡ other_run) × (absent ≡ other_absent) × (world ≡ other_world)
+
+-- a log has one text of its replay
+one_text : (log : Log) (text more : List ℕ) → IsDetermined → IsWholeReplay log text → IsWholeReplay log more → text ≡ more
+one_text log text more one (run, absent, world, left, is) (other_run, other_absent, other_world, right, is') =
+    let same = one log.scenario.setup log.trace.entries (all_kept log) run other_run absent other_absent world other_world left right in
+    is ∙ ap₂ (λ (r : List Taken) (a : List ℕ). replay_text r a log.scenario.invariants) same.0 same.1 ∙ sym is'
+
+one_replay : (bytes text more : List ℕ) → IsDetermined → IsReplayed bytes text → IsReplayed bytes more → text ≡ more
+one_replay bytes text more one a b =
+    let log : b.0 ≡ a.0 = one_log bytes b.0 a.0 b.1 a.1 in
+    one_text a.0 text more one a.3 (subst (λ (l : Log). IsWholeReplay l more) log b.3)
 
 one_refusal : (bytes text more : List ℕ) → IsRefusal bytes text → IsRefusal bytes more → text ≡ more
 one_refusal bytes text more a b =
@@ -157,16 +173,16 @@ one_illegal bytes text more a b =
     let wrong = subst (λ (l : Log). IsWrong hosting starting l.scenario.setup l.trace b.1) log b.3 in
     a.5 ∙ ap wrong_line (one_wrong hosting starting a.0.scenario.setup a.0.trace a.1 b.1 a.3 wrong a.4 b.4) ∙ sym b.5
 
-replay_or_illegal : (bytes text more : List ℕ) → IsReplay bytes text → IsIllegal bytes more → ⊥
+replay_or_illegal : (bytes text more : List ℕ) → IsReplayed bytes text → IsIllegal bytes more → ⊥
 replay_or_illegal bytes text more a b =
     let log : b.0 ≡ a.0 = one_log bytes b.0 a.0 b.2 a.1 in
     let wrong = subst (λ (l : Log). IsWrong hosting starting l.scenario.setup l.trace b.1) log b.3 in
     legal_or_wrong hosting starting a.0.scenario.setup a.0.trace b.1 a.2 wrong b.4
 
-pub one_answer : (bytes : List ℕ) (code other : ℕ) (text more : List ℕ) → IsAnswer bytes code text → IsAnswer bytes other more → (code ≡ other) × (text ≡ more)
-one_answer bytes code other text more one two = elim one [
+pub one_answer : IsDetermined → (bytes : List ℕ) (code other : ℕ) (text more : List ℕ) → IsAnswer bytes code text → IsAnswer bytes other more → (code ≡ other) × (text ≡ more)
+one_answer determined bytes code other text more one two = elim one [
   | inl a ↦ elim two [
-    | inl b ↦ (a.0 ∙ sym b.0, one_replay bytes text more a.1 b.1)
+    | inl b ↦ (a.0 ∙ sym b.0, one_replay bytes text more determined a.1 b.1)
     | inr rest ↦ elim rest [
       | inl b ↦ absurd (log_or_refused bytes a.1.0 b.1.0 b.1.1 a.1.1 b.1.2)
       | inr b ↦ absurd (replay_or_illegal bytes text more a.1 b.1)

@@ -1,10 +1,13 @@
 //! What the program answers to the bytes that it read.
 ghost use Rattle.std.specs.Prelude.{◌≡◌, IfOk};
 ghost use Rattle.machine_setup.specs.Setup.{IsValidSetup};
-ghost use Rattle.sts_cli.specs.Answer.{IsAnswer, IsJudged};
+ghost use Rattle.event_machine.specs.Legal.{IsLegalRun};
+ghost use Rattle.controller_host.specs.Hosting.{hosting, starting};
+ghost use Rattle.sts_cli.specs.Answer.{IsAnswer, IsJudged, IsWholeReplay};
 
 use crate::lines::{refused_line, replay_text, wrong_line};
 use crate::status::Status;
+use causal_replay::replay;
 use event_machine::{LogNo, check_legal};
 use log_doc::{DocFail, Log, read_log};
 use std::alloc::{AllocError, Global};
@@ -30,20 +33,39 @@ pub(crate) fn answer_to(alloc: Global, bytes: &[u8]) -> Result<Answer, AllocErro
     }
 }
 
-// The replay of a log that is a legal run, or what is wrong with it.
+// The replay of a log with all lines of its script, or what is wrong with it.
 fn judged(alloc: Global, log: &Log) -> Result<Answer, AllocError>
     requires { IsValidSetup log.now.scenario.setup }
     ensures { IfOk result (λ answer. IsJudged log.now answer.status.code answer.text.items) }
 {
     match check_legal(alloc, &log.scenario.setup, &log.trace) {
-        Ok(_) => Ok(Answer {
-            status: Status::DONE,
-            text: replay_text(alloc, log)?.into_bytes(),
-        }),
+        Ok(_) => whole_replay(alloc, log),
         Err(LogNo::OutOfMemory) => Err(AllocError),
         Err(why) => Ok(Answer {
             status: Status::NOT_LEGAL,
             text: wrong_line(alloc, why)?.into_bytes(),
         }),
     }
+}
+
+// The replay of a legal run with all lines of its script.
+fn whole_replay(alloc: Global, log: &Log) -> Result<Answer, AllocError>
+    requires setup { IsValidSetup log.now.scenario.setup }
+    requires legal { IsLegalRun hosting starting log.now.scenario.setup log.now.trace }
+    ensures code { IfOk result (λ answer. answer.status.code ≡ 0) }
+    ensures text { IfOk result (λ answer. IsWholeReplay log.now answer.text.items) }
+{
+    let Log { scenario, trace } = log;
+    let keep = vec![in alloc; true; scenario.setup.script.len()]?;
+    let replayed = replay(alloc, &scenario.setup, trace, keep.as_slice())?;
+    let text = replay_text(
+        alloc,
+        replayed.run.as_slice(),
+        replayed.absent.as_slice(),
+        scenario.invariants.as_slice(),
+    )?;
+    Ok(Answer {
+        status: Status::DONE,
+        text: text.into_bytes(),
+    })
 }

@@ -1,23 +1,29 @@
 //! The lines that the program writes.
 ghost use Rattle.std.specs.Prelude.{◌≡◌, ◌≢◌, ◌++◌, IfOk, OnOk, string_bytes};
 ghost use Rattle.event_machine.specs.declared.legal.LogNo.TheVariants.{OutOfMemory};
-ghost use Rattle.sts_cli.specs.Lines.{end_line, event_text, step_line, step_lines, head_line, replay_text, refused_line, wrong_line};
+ghost use Rattle.sts_cli.specs.Lines.{end_line, event_text, reason_text, step_line, step_lines, head_line, replay_text, refused_line, wrong_line};
 
-use event_machine::{Entry, Event, LogNo};
-use log_doc::Log;
+use causal_replay::{Taken, Why};
+use event_machine::{Event, LogNo};
 use std::alloc::{AllocError, Global};
 use topology::Invariant;
 
-/// The replay of a legal run that keeps all inputs.
-pub(crate) fn replay_text(alloc: Global, log: &Log) -> Result<String, AllocError>
-    ensures { IfOk result (λ text. string_bytes text ≡ replay_text log.now) }
+/// The text of a replay, told by its steps and by the places of the entries that are absent from it.
+pub(crate) fn replay_text(
+    alloc: Global,
+    run: &[Taken],
+    absent: &[u32],
+    invariants: &[Invariant],
+) -> Result<String, AllocError>
+    ensures { IfOk result (λ text. string_bytes text ≡ replay_text run.now absent.now invariants.now) }
 {
     let mut text = String::new(alloc);
-    let steps = log.trace.entries.len();
+    let steps = run.len();
+    let missed = absent.len();
     writeln!(text, "replay {steps} steps")?;
-    push_steps(&mut text, log.trace.entries.as_slice())?;
-    writeln!(text, "absent 0")?;
-    push_end(&mut text, log.scenario.invariants.as_slice())?;
+    push_steps(&mut text, run)?;
+    writeln!(text, "absent {missed}")?;
+    push_end(&mut text, invariants)?;
     Ok(text)
 }
 
@@ -32,24 +38,33 @@ fn push_end(text: &mut String, invariants: &[Invariant]) -> Result<(), AllocErro
     }
 }
 
-fn push_steps(text: &mut String, entries: &[Entry]) -> Result<(), AllocError>
-    ensures { OnOk result (string_bytes text.new ≡ string_bytes text.old ++ step_lines entries.now) }
+fn push_steps(text: &mut String, run: &[Taken]) -> Result<(), AllocError>
+    ensures { OnOk result (string_bytes text.new ≡ string_bytes text.old ++ step_lines run.now) }
 {
-    for (at, entry) in entries.iter().enumerate() {
-        push_step(text, at, &entry.event)?;
+    for (at, step) in run.iter().enumerate() {
+        push_step(text, at, step)?;
     }
     Ok(())
 }
 
-fn push_step(text: &mut String, at: usize, event: &Event) -> Result<(), AllocError>
-    ensures { OnOk result (string_bytes text.new ≡ string_bytes text.old ++ step_line at event.now) }
+fn push_step(text: &mut String, at: usize, step: &Taken) -> Result<(), AllocError>
+    ensures { OnOk result (string_bytes text.new ≡ string_bytes text.old ++ step_line at step.now) }
 {
-    if let Event::In(position) = event {
-        return writeln!(text, "{at} input {position}");
-    }
-    write!(text, "{at} expected {at} ")?;
-    push_event(text, event)?;
+    write!(text, "{at} ")?;
+    push_reason(text, step.why, &step.event)?;
     text.push('\n')
+}
+
+// Why an event was taken, and which.
+fn push_reason(text: &mut String, why: Why, event: &Event) -> Result<(), AllocError>
+    ensures { OnOk result (string_bytes text.new ≡ string_bytes text.old ++ reason_text why event.now) }
+{
+    match why {
+        Why::Input => return write!(text, "input {}", event.number()),
+        Why::Expected { entry } => write!(text, "expected {entry} ")?,
+        Why::Extra => write!(text, "extra ")?,
+    }
+    push_event(text, event)
 }
 
 // The words of an event.

@@ -1,7 +1,9 @@
 //! The worked cases of the top call, over a source and a sink in memory.
 use super::sts;
+use crate::lines::replay_text;
+use causal_replay::{Taken, Why};
 use doc_forms::DocFail;
-use event_machine::{LogNo, StepNo};
+use event_machine::{Event, LogNo, StepNo};
 use listed::Listed;
 use std::alloc::{AllocError, Global};
 use std::fmt::Display;
@@ -129,6 +131,34 @@ fn the_longest_document(rt: HostRuntime) -> Result<(), Fail> {
         assert_eq!(rt; status.code, code, "at {len}");
         assert_eq!(rt; sink.taken(), text.as_bytes(), "at {len}");
     }
+    Ok(())
+}
+
+#[test]
+fn a_replay_that_leaves_the_history(rt: HostRuntime) -> Result<(), Fail> {
+    let run = [
+        Taken {
+            event: Event::In(2),
+            why: Why::Input,
+        },
+        Taken {
+            event: Event::Pkt {
+                s: 0,
+                p: 1,
+                item: 0,
+            },
+            why: Why::Expected { entry: 17 },
+        },
+        Taken {
+            event: Event::Note { s: 0, item: 1 },
+            why: Why::Extra,
+        },
+    ];
+    let text = replay_text(rt.alloc(), &run, &[19, 21], &[])?;
+    assert_eq!(rt;
+        text.as_str(),
+        "replay 3 steps\n0 input 2\n1 expected 17 pkt 0 1 0\n2 extra note 0 1\nabsent 2\nend holds\n"
+    );
     Ok(())
 }
 

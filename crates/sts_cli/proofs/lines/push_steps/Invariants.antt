@@ -6,5 +6,5 @@ use Rattle.sts_cli.proofs.lines.push_steps.Given as goal
 
 abbrev pub invariant-loop-at : goal.invariant-loop-at
 invariant-loop-at l =
-    string_bytes l.text ++ flat_map (λ step. step_line step.0 step.1.event) (enumerate_from l.at (drop l.at l.entries))
-    ≡ string_bytes l.fn.text ++ step_lines l.entries
+    string_bytes l.text ++ flat_map (λ step. step_line step.0 step.1) (enumerate_from l.at (drop l.at l.run))
+    ≡ string_bytes l.fn.text ++ step_lines l.run
