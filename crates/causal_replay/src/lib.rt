@@ -6,3 +6,6 @@ pub mod laws;
 mod replayed;
 
 pub use replayed::{Indices, Replayed, Steps, Taken, Why, replay};
+
+#[cfg(test)]
+mod tests;
