@@ -1,9 +1,9 @@
 -- The mask of an item: what is left of it without the numbers in which two equal behaviours may differ. Which these are is this
 -- project's own choice.
-use Rattle.std.specs.Prelude.{Bool, true, false}
+use Rattle.std.specs.Prelude.{ℕ, Bool, true, false, Option, Some, None}
 use Rattle.message_pools.specs.declared.item.Item.{Item}
 use Rattle.message_pools.specs.declared.item.Item.TheVariants as item
-use Rattle.of10_messages.specs.Wire.{with_xid}
+use Rattle.of10_messages.specs.Wire.{message_kind, with_xid}
 use Rattle.of10_messages.specs.declared.message.FlowMod.{FlowMod}
 use Rattle.of10_messages.specs.declared.message.Message.{Message}
 use Rattle.of10_messages.specs.declared.message.Message.TheVariants as message
@@ -31,3 +31,8 @@ masked other = other
 abbrev pub is_message : Item → Bool
 is_message (item.Message message) = true
 is_message other = false
+
+-- the type of a message whose body is decoded
+abbrev pub decoded_kind : Message → Option ℕ
+decoded_kind (message.Other xid kind body) = None
+decoded_kind other = Some (message_kind other)

@@ -191,28 +191,26 @@ impl<B: Book> TurnBook<B> {
         let shared = &self.table.shared;
         let looked = shared.load::<Look>(&mut token, 0);
         if looked % 2 == 1 {
-            let seat = Seat {
-                token,
-                shares,
-                seen,
-                own,
-            };
             return Turned::Busy {
-                seat,
+                seat: Seat {
+                    token,
+                    shares,
+                    seen,
+                    own,
+                },
                 looked,
                 found: looked,
             };
         }
         let found = shared.compare_exchange::<Try>(&mut token, 0, looked, looked + 1);
         if found != looked {
-            let seat = Seat {
-                token,
-                shares,
-                seen,
-                own,
-            };
             return Turned::Busy {
-                seat,
+                seat: Seat {
+                    token,
+                    shares,
+                    seen,
+                    own,
+                },
                 looked,
                 found,
             };
