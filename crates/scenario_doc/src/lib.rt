@@ -30,6 +30,7 @@ pub use network::SwitchDraft;
 pub use plans::{Plan, Plans};
 pub use rules::{Rules, each};
 pub use scenario::{Scenario, read_scenario};
+pub use write_script::line_text;
 pub use write_setup::{scenario_json, write_scenario};
 
 #[cfg(test)]

@@ -104,8 +104,8 @@ impl ToJson for LineJson {
     }
 }
 
-/// One line of a script by itself.
-pub(crate) fn line_text(alloc: Global, line: &Line) -> Result<String, AllocError>
+/// One line of a script by itself, as compact JSON.
+pub fn line_text(alloc: Global, line: &Line) -> Result<String, AllocError>
     ensures { IfOk result (λ text. string_bytes text ≡ compact_text (line_data line.now)) }
 {
     LineJson::to_json(alloc, line)?.to_string(alloc)
