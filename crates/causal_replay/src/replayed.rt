@@ -60,6 +60,7 @@ pub fn replay<C: Controller>(
     requires legal { IsLegalRun C.react C.start setup.now trace.now }
     requires keep { length keep.now ≡ length setup.now.script }
     ensures replay { IfOk result (λ replayed. IsReplay C.react C.start setup.now trace.now.entries keep.now replayed.run replayed.absent replayed.world) }
+    ensures fits { IfOk result (λ replayed. Fits C.policies setup.now replayed.world) }
 {
     let mut replayed = Replayed {
         run: Listed::new(alloc),
