@@ -65,6 +65,15 @@ outside (j ∷ is) (x ∷ xs) zero i here fits out =
     and_left (within j x) (each_within is xs) (ap (λ (k : Interval). within k x) same ∙ out)
 outside (j ∷ is) (x ∷ xs) (suc at) i here fits out = and_right (within j x) (each_within is xs) (outside is xs at i here (omega arith) out)
 
+-- each number of a list in a box is within its interval
+pub inside_at : (is : List Interval) (xs : List ℕ) (at : ℕ) (here : Interval) → slice_get is at ≡ Some here → at < length xs → each_within is xs ≡ true → within here (get_or xs at 0) ≡ true
+inside_at [] xs at i here fits inside = absurd cc
+inside_at (j ∷ is) [] at i here fits inside = absurd (omega arith)
+inside_at (j ∷ is) (x ∷ xs) zero i here fits inside =
+    let same : j ≡ i = cc in
+    ap (λ (k : Interval). within k x) (sym same) ∙ (and_parts (within j x) (each_within is xs) inside).0
+inside_at (j ∷ is) (x ∷ xs) (suc at) i here fits inside = inside_at is xs at i here (omega arith) (and_parts (within j x) (each_within is xs) inside).1
+
 -- a list in a box is in each box of fewer fields
 pub each_within-take : (is : List Interval) (xs : List ℕ) (n : ℕ) → each_within is xs ≡ true → each_within (take n is) xs ≡ true
 each_within-take [] xs zero inside = refl
@@ -82,6 +91,35 @@ pub inner_itself : (ws : List ℕ) (is : List Interval) → AllZip IsInterval ws
 inner_itself ws [] all = tt
 inner_itself [] (i ∷ is) all = absurd all
 inner_itself (w ∷ ws) (i ∷ is) all = let valid = all.0 in (record { ordered = valid.ordered; low = omega arith; high = omega arith }, inner_itself ws is all.1)
+
+-- what is inner to an inner box is inner to the outer one
+pub inner_chain : (is js ks : List Interval) → AllZip IsInner is js → AllZip IsInner js ks → AllZip IsInner is ks
+inner_chain [] [] [] one other = tt
+inner_chain [] [] (k ∷ ks) one other = absurd other
+inner_chain [] (j ∷ js) ks one other = absurd one
+inner_chain (i ∷ is) [] ks one other = absurd one
+inner_chain (i ∷ is) (j ∷ js) [] one other = absurd other
+inner_chain (i ∷ is) (j ∷ js) (k ∷ ks) one other =
+    let outer = one.0 in
+    let inner = other.0 in
+    (record { ordered = inner.ordered; low = omega (arith, outer.low, inner.low); high = omega (arith, outer.high, inner.high) }, inner_chain is js ks one.1 other.1)
+
+-- what is within the inner interval is within the outer one
+pub inner_within : (outer inner : Interval) (y : ℕ) → IsInner outer inner → within inner y ≡ true → within outer y ≡ true
+inner_within outer inner y nested inside =
+    let parts = and_parts (nat_le inner.low y) (nat_le y inner.high) inside in
+    let low = leb-true inner.low y parts.0 in
+    let high = leb-true y inner.high parts.1 in
+    and_from (nat_le outer.low y) (nat_le y outer.high) (le-leb outer.low y (omega (arith, low, nested.low))) (le-leb y outer.high (omega (arith, high, nested.high)))
+
+-- a list in the inner box is in the outer one
+pub inner_part : (is js : List Interval) (xs : List ℕ) → AllZip IsInner is js → each_within js xs ≡ true → each_within is xs ≡ true
+inner_part [] js xs all inside = refl
+inner_part (i ∷ is) [] xs all inside = absurd all
+inner_part (i ∷ is) (j ∷ js) [] all inside = refl
+inner_part (i ∷ is) (j ∷ js) (x ∷ xs) all inside =
+    let parts = and_parts (within j x) (each_within js xs) inside in
+    and_from (within i x) (each_within is xs) (inner_within i j x all.0 parts.0) (inner_part is js xs all.1 parts.1)
 
 -- the intervals of one field
 pub inner_at : (is js : List Interval) (at : ℕ) (i j : Interval) → AllZip IsInner is js → slice_get is at ≡ Some i → slice_get js at ≡ Some j → IsInner i j

@@ -1,7 +1,7 @@
 -- A cell with one interval changed, and what it parts into.
-use Rattle.std.proofs.Common.{◌≡◌, ◌∙◌, ◌+◌, ◌<◌, ◌≤◌, ◌&&◌, ℕ, suc, Bool, true, false, cond, List, [], ◌∷◌, ◌++◌, length, get_or, take, set, slice_get, Option, Some, None, nat_le, nat_lt, inl, inr, refl, sym, ap, arith}
+use Rattle.std.proofs.Common.{◌≡◌, ◌∙◌, ◌+◌, ◌<◌, ◌≤◌, ◌&&◌, ℕ, suc, Bool, true, false, cond, List, [], ◌∷◌, ◌++◌, length, get_or, take, set, slice_get, Option, Some, None, nat_lt, inl, inr, refl, sym, ap, arith}
 use Rattle.std.proofs.Math.Bool.{and_assoc}
-use Rattle.std.proofs.lemmas.Bool.{and_from, and_parts, both_ways, cases_lt, false_from_ne_true, le-leb, leb-true, le-ltb, lt-leb, lt-ltb}
+use Rattle.std.proofs.lemmas.Bool.{and_from, and_parts, both_ways, cases_lt, false_from_ne_true, le-leb, le-ltb, lt-leb, lt-ltb}
 use Rattle.std.proofs.lemmas.List.{take_all, take_more, take_more_set}
 use Rattle.std.proofs.lemmas.List.Elements.{length_all_zip}
 use Rattle.std.proofs.lemmas.Option.{get_or_from_slice_get, slice_get_within}
@@ -11,10 +11,10 @@ use Rattle.of10_match.specs.declared.header.Header.{Header}
 use Rattle.header_classes.specs.declared.interval.Interval.{Interval}
 use Rattle.header_classes.specs.Interval.{IsInner, within, within_some}
 use Rattle.header_classes.specs.Cell.{each_within, fields, in_cell, in_some}
-use Rattle.header_classes.proofs.Boxes.{each_within-more, each_within-take, missed, narrowed}
+use Rattle.header_classes.proofs.Boxes.{each_within-more, each_within-take, inner_within, missed, narrowed, outside}
 use Rattle.header_classes.proofs.Headers.{length-fields}
 
-field_fits : (h : Header) (at : ℕ) → at < 11 → at < length (fields h)
+pub field_fits : (h : Header) (at : ℕ) → at < 11 → at < length (fields h)
 field_fits h at fits = rw length-fields fits
 
 -- a cell with an interval that takes of the old one the numbers that pass a test
@@ -75,13 +75,18 @@ implied true b follows = rw (follows refl) refl
 implied false true follows = refl
 implied false false follows = refl
 
--- what is within the inner interval is within the outer one
-inner_within : (outer inner : Interval) (y : ℕ) → IsInner outer inner → within inner y ≡ true → within outer y ≡ true
-inner_within outer inner y nested inside =
-    let parts = and_parts (nat_le inner.low y) (nat_le y inner.high) inside in
-    let low = leb-true inner.low y parts.0 in
-    let high = leb-true y inner.high parts.1 in
-    and_from (nat_le outer.low y) (nat_le y outer.high) (le-leb outer.low y (omega (arith, low, nested.low))) (le-leb y outer.high (omega (arith, high, nested.high)))
+-- a cell with an inner interval has the headers whose number there is within it
+pub inner_cell : (cell : List Interval) (h : Header) (at : ℕ) (old new : Interval) → slice_get cell at ≡ Some old → at < 11 → IsInner old new
+    → in_cell (set cell at new) h ≡ (in_cell cell h && within new (get_or (fields h) at 0))
+inner_cell cell h at old new here fits nested = narrow_cell (within new) cell h at old new here fits (λ y. implied (within new y) (within old y) (inner_within old new y nested))
+
+-- where its interval there is apart from that of another cell, none of its headers is in that one
+pub apart_cell : (cell other : List Interval) (h : Header) (at : ℕ) (old new there : Interval) → slice_get cell at ≡ Some old → slice_get other at ≡ Some there → at < 11 → IsInner old new
+    → ((x : ℕ) → within new x ≡ true → within there x ≡ false) → in_cell (set cell at new) h ≡ true → in_cell other h ≡ false
+apart_cell cell other h at old new there here beside fits nested apart inside =
+    let x = get_or (fields h) at 0 in
+    let parts = and_parts (in_cell cell h) (within new x) (sym (inner_cell cell h at old new here fits nested) ∙ inside) in
+    outside other (fields h) at there beside (field_fits h at fits) (apart x parts.1)
 
 -- one field more: what lies below, what lies above, and what is left
 pub around_more : (part : List Interval) (h : Header) (at : ℕ) (outer inner : Interval) (below above : Option Interval) → slice_get part at ≡ Some outer → at < 11 → IsInner outer inner
@@ -93,7 +98,7 @@ around_more part h at outer inner below above here fits within_outer low high =
     rw (
       narrow_some (λ y. nat_lt y inner.low) part h at outer below here fits low,
       narrow_some (λ y. nat_lt inner.high y) part h at outer above here fits high,
-      narrow_cell (within inner) part h at outer inner here fits (λ y. implied (within inner y) (within outer y) (inner_within outer inner y within_outer)),
+      inner_cell part h at outer inner here fits within_outer,
     ) (three (in_cell part h) inner x within_outer.ordered)
 
 -- the part and the inner cell have the same intervals of one field more

@@ -66,7 +66,7 @@ in_cell-valid cell h valid inside =
 both : {a b c d : Bool} → a ≡ b → c ≡ d → (a && c) ≡ (b && d)
 both p q = rw (p, q) refl
 
-and-true : (a : Bool) → (a && true) ≡ a
+pub and-true : (a : Bool) → (a && true) ≡ a
 and-true true = refl
 and-true false = refl
 

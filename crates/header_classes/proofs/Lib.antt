@@ -5,3 +5,5 @@ pub mod Cuts
 pub mod Orders
 pub mod Classes
 pub mod Counts
+pub mod Rewrites
+pub mod Sizes

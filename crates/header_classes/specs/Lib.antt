@@ -1,3 +1,5 @@
 pub mod Cell
 pub mod Interval
 pub mod Order
+pub mod Rewrite
+pub mod Size

@@ -1,6 +1,6 @@
 //! Cells of headers.
 
-ghost use Rattle.std.specs.Prelude.{◌≡◌, ◌≢◌, ◌<◌, ◌&&◌, ◌↔◌, ℕ, IfSome, IsTrue, Some, length, map, nat_eq, slice_get, slice_index, slice_set};
+ghost use Rattle.std.specs.Prelude.{◌≡◌, ◌≢◌, ◌<◌, ◌≤◌, ◌&&◌, ◌↔◌, ℕ, IfSome, IsTrue, Some, length, map, nat_eq, slice_get, slice_index, slice_set};
 ghost use Rattle.std.specs.List.{AllZip};
 ghost use Rattle.std.specs.declared.cmp.Ordering.TheVariants.{Less};
 ghost use Rattle.of10_match.specs.Field.{takes_by};
@@ -9,6 +9,7 @@ ghost use Rattle.of10_match.specs.Match.{IsValidMatch, takes};
 ghost use Rattle.of10_match.specs.declared.header.Header.{Header};
 ghost use Rattle.header_classes.specs.Interval.{IsInner, IsInterval};
 ghost use Rattle.header_classes.specs.Cell.{each_within, fields, in_cell, in_some, widths};
+ghost use Rattle.header_classes.specs.Size.{size};
 
 use crate::interval::Interval;
 use listed::Listed;
@@ -17,6 +18,9 @@ use std::marker::Model;
 
 /// How many fields a header has.
 pub(crate) const FIELDS: usize = 11;
+
+/// How many bits each field has.
+const WIDTHS: [u32; FIELDS] = [48, 48, 16, 8, 16, 8, 8, 32, 32, 16, 16];
 
 /// A list of cells.
 pub type Cells = Listed<Cell>;
@@ -57,8 +61,17 @@ impl Cell {
         cell
     }
 
+    /// The headers that a match takes on a port, if there are any.
+    pub fn of_match(in_port: u16, matches: &Match) -> Option<Cell>
+        requires { IsValidMatch matches.now }
+        ensures { (h : Header) → IsValidHeader h → in_some result h ≡ takes matches.now in_port h }
+    {
+        let taken = Cell::taken(matches);
+        takes_port(matches, in_port).then_some(taken)
+    }
+
     /// The headers that a match takes where it takes the port.
-    pub(crate) fn taken(matches: &Match) -> Cell
+    fn taken(matches: &Match) -> Cell
         requires { IsValidMatch matches.now }
         ensures { (port : ℕ) (h : Header) → IsValidHeader h
             → takes matches.now port h ≡ (takes_by nat_eq matches.now.in_port port && in_cell result h) }
@@ -127,6 +140,7 @@ impl Cell {
         ensures valid { (h : Header) → IsTrue (in_cell self.now h) → IsValidHeader h }
         ensures inner { AllZip IsInner self.now self.now }
         ensures some { (h : Header) × IsTrue (in_cell self.now h) }
+        ensures size { 1 ≤ size self.now }
     {
         let _intervals = &self.intervals;
     }
@@ -165,9 +179,25 @@ impl Cell {
     }
 }
 
+pub(crate) fn takes_port(matches: &Match, in_port: u16) -> bool
+    ensures { result ≡ takes_by nat_eq matches.now.in_port in_port }
+{
+    matches.in_port.is_none_or(|port| port == in_port)
+}
+
+/// How many bits a field has.
+#[tactic(auto, unfolding(crate::specs::Cell::widths))]
+pub(crate) fn width(field: usize) -> u32
+    requires { field < 11 }
+    ensures here { result ≡ slice_index widths field }
+    ensures most { result ≤ 48 }
+{
+    WIDTHS[field]
+}
+
 /// The fields of a header, as numbers.
 #[tactic(auto, unfolding(crate::specs::Cell::fields))]
-fn numbers_of(header: &Header) -> [u64; FIELDS]
+pub(crate) fn numbers_of(header: &Header) -> [u64; FIELDS]
     ensures { result ≡ fields header.now }
 {
     [

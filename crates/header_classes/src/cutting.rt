@@ -1,13 +1,13 @@
 //! Cutting a cell by what a match takes.
 
-ghost use Rattle.std.specs.Prelude.{◌≡◌, ◌<◌, ◌≤◌, ◌+◌, ◌&&◌, ◌↔◌, [], ◌∷◌, ◌++◌, IfOk, IfSome, IsNone, IsSome, IsTrue, OnOk, cond, length, nat_eq, not, slice_index, slice_set};
+ghost use Rattle.std.specs.Prelude.{◌≡◌, ◌<◌, ◌≤◌, ◌+◌, ◌&&◌, ◌↔◌, [], ◌∷◌, ◌++◌, IfOk, IfSome, IsNone, IsSome, IsTrue, OnOk, cond, length, not, slice_index, slice_set};
 ghost use Rattle.std.specs.List.{AllZip};
-ghost use Rattle.std.specs.Option.{option_map};
-ghost use Rattle.of10_match.specs.Field.{takes_by};
+ghost use Rattle.std.specs.Option.{option_map, option_map_or};
 ghost use Rattle.of10_match.specs.Match.{IsValidMatch, takes};
 ghost use Rattle.of10_match.specs.declared.header.Header.{Header};
 ghost use Rattle.header_classes.specs.Interval.{IsInner, IsInterval};
 ghost use Rattle.header_classes.specs.Cell.{IsPartition, in_cell, in_some, times, widths};
+ghost use Rattle.header_classes.specs.Size.{size, sizes};
 
 use crate::cell::{Cell, Cells, FIELDS};
 use crate::interval::Interval;
@@ -59,7 +59,7 @@ pub(crate) fn take_out(
         rest.push(*cell)?;
         return Ok(None);
     };
-    add_around(rest, cell, &taken)?;
+    cell.add_rest(&taken, rest)?;
     Ok(Some(taken))
 }
 
@@ -70,17 +70,7 @@ fn taken_part(cell: &Cell, in_port: u16, matches: &Match) -> Option<Cell>
     ensures inner { IfSome result (λ part. AllZip IsInner cell.now part) }
 {
     cell.every_cell();
-    let taken = Cell::taken(matches);
-    if !takes_port(matches, in_port) {
-        return None;
-    }
-    cell.meet(&taken)
-}
-
-pub(crate) fn takes_port(matches: &Match, in_port: u16) -> bool
-    ensures { result ≡ takes_by nat_eq matches.now.in_port in_port }
-{
-    matches.in_port.is_none_or(|port| port == in_port)
+    cell.meet(&Cell::of_match(in_port, matches)?)
 }
 
 /// A cell alone.
@@ -92,24 +82,28 @@ pub(crate) fn one(alloc: Global, cell: &Cell) -> Result<Cells, AllocError>
     Ok(cells)
 }
 
-/// Adds cells for what lies in a cell and not in an inner one: for each field in turn what lies below and what lies
-/// above the inner interval, within the inner intervals of the fields before.
-fn add_around(rest: &mut Cells, cell: &Cell, inner: &Cell) -> Result<(), AllocError>
-    requires { AllZip IsInner cell.now inner.now }
-    ensures whole { OnOk result ((h : Header)
-        → times rest.new h + cond (in_cell inner.now h) 1 0 ≡ times rest.old h + cond (in_cell cell.now h) 1 0) }
-    ensures few { OnOk result (length rest.new ≤ length rest.old + 22) }
-{
-    inner.every_cell();
-    let mut part = *cell;
-    for field in 0..FIELDS {
-        let outer = part.interval(field);
-        let within = inner.interval(field);
-        add(rest, narrowed(&part, field, outer.below(within.low)))?;
-        add(rest, narrowed(&part, field, outer.above(within.high)))?;
-        part.set(field, within);
+impl Cell {
+    /// Adds cells for what lies in the cell and not in an inner one: for each field in turn what lies below and what lies
+    /// above the inner interval, within the inner intervals of the fields before.
+    pub fn add_rest(&self, inner: &Cell, rest: &mut Cells) -> Result<(), AllocError>
+        requires { AllZip IsInner self.now inner.now }
+        ensures whole { OnOk result ((h : Header)
+            → times rest.new h + cond (in_cell inner.now h) 1 0 ≡ times rest.old h + cond (in_cell self.now h) 1 0) }
+        ensures sizes { OnOk result (sizes rest.new + size inner.now ≡ sizes rest.old + size self.now) }
+        ensures some { 1 ≤ size inner.now }
+        ensures few { OnOk result (length rest.new ≤ length rest.old + 22) }
+    {
+        inner.every_cell();
+        let mut part = *self;
+        for field in 0..FIELDS {
+            let outer = part.interval(field);
+            let within = inner.interval(field);
+            add(rest, narrowed(&part, field, outer.below(within.low)))?;
+            add(rest, narrowed(&part, field, outer.above(within.high)))?;
+            part.set(field, within);
+        }
+        Ok(())
     }
-    Ok(())
 }
 
 /// The part of a cell whose field lies in an interval, where there is one.
@@ -126,6 +120,7 @@ fn narrowed(cell: &Cell, field: usize, interval: Option<Interval>) -> Option<Cel
 /// Adds a cell to a list, where there is one.
 pub(crate) fn add(cells: &mut Cells, cell: Option<Cell>) -> Result<(), AllocError>
     ensures headers { OnOk result ((h : Header) → times cells.new h ≡ times cells.old h + cond (in_some cell h) 1 0) }
+    ensures sizes { OnOk result (sizes cells.new ≡ sizes cells.old + option_map_or size cell 0) }
     ensures few { OnOk result (length cells.new ≤ length cells.old + 1) }
 {
     if let Some(cell) = cell {

@@ -1,6 +1,7 @@
 //! Closed intervals of numbers, and those that the fields of a match take.
 
-ghost use Rattle.std.specs.Prelude.{◌≡◌, ◌≤◌, ◌<◌, ◌^◌, ◌&&◌, ℕ, IfSome, nat_eq, nat_lt};
+ghost use Rattle.std.specs.Prelude.{◌≡◌, ◌≤◌, ◌<◌, ◌-◌, ◌^◌, ◌&&◌, ℕ, IfSome, IsTrue, false, nat_eq, nat_lt, unwrap_or};
+ghost use Rattle.std.specs.Option.{option_map_or};
 ghost use Rattle.of10_match.specs.Field.{IsValidAddress, IsValidNumber, takes_address, takes_by};
 
 use of10_match::Prefix;
@@ -14,6 +15,7 @@ pub struct Interval {
 
 impl Interval {
     ghost use Rattle.header_classes.specs.Interval.{IsInner, IsInterval, within, within_some};
+    ghost use Rattle.header_classes.specs.Size.{breadth};
 
     /// The numbers of so many bits that a field of a match takes.
     pub(crate) fn of_number(bits: u32, field: Option<u64>) -> Interval
@@ -93,6 +95,7 @@ impl Interval {
         requires { self.now.low ≤ self.now.high }
         ensures below { (x : ℕ) → within_some result x ≡ (within self.now x && nat_lt x limit) }
         ensures inner { IfSome result (λ part. IsInner self.now part) }
+        ensures breadth { limit ≤ self.now.high → option_map_or breadth result 0 ≡ limit - self.now.low }
     {
         if limit <= self.low {
             return None;
@@ -108,6 +111,7 @@ impl Interval {
         requires { self.now.low ≤ self.now.high }
         ensures above { (x : ℕ) → within_some result x ≡ (within self.now x && nat_lt limit x) }
         ensures inner { IfSome result (λ part. IsInner self.now part) }
+        ensures breadth { self.now.low ≤ limit → option_map_or breadth result 0 ≡ self.now.high - limit }
     {
         if self.high <= limit {
             return None;
@@ -117,9 +121,62 @@ impl Interval {
             high: self.high,
         })
     }
+
+    /// The numbers of the interval on that side of another one on which a number of it lies.
+    pub(crate) fn beside(&self, other: &Interval, number: u64) -> Interval
+        requires here { IsTrue (within self.now number) }
+        requires outside { within other.now number ≡ false }
+        requires ordered { other.now.low ≤ other.now.high }
+        ensures here { IsTrue (within result number) }
+        ensures inner { IsInner self.now result }
+        ensures apart { (x : ℕ) → IsTrue (within result x) → within other.now x ≡ false }
+    {
+        if number < other.low {
+            Interval {
+                low: self.low,
+                high: self.high.min(other.low - 1),
+            }
+        } else {
+            Interval {
+                low: self.low.max(other.high + 1),
+                high: self.high,
+            }
+        }
+    }
+
+    /// The numbers of so many bits that are within the interval once a number was put in their place, where it is given.
+    pub(crate) fn before(&self, bits: u32, number: Option<u64>) -> Option<Interval>
+        requires width { bits ≤ 48 }
+        requires valid { IsInterval bits self.now }
+        ensures valid { IfSome result (λ part. IsInterval bits part) }
+        ensures before { (x : ℕ) → x < 2 ^ bits → within_some result x ≡ within self.now (unwrap_or number x) }
+    {
+        match number {
+            None => Some(*self),
+            Some(number) => self.has(number).then_some(Interval::of_number(bits, None)),
+        }
+    }
+
+    /// The numbers of so many bits that become the same one once either of two is put in their place, where it is given.
+    pub(crate) fn same(bits: u32, one: Option<u64>, two: Option<u64>) -> Option<Interval>
+        requires width { bits ≤ 48 }
+        requires one { IsValidNumber bits one }
+        requires two { IsValidNumber bits two }
+        ensures valid { IfSome result (λ part. IsInterval bits part) }
+        ensures same { (x : ℕ) → x < 2 ^ bits → within_some result x ≡ nat_eq (unwrap_or one x) (unwrap_or two x) }
+    {
+        match (one, two) {
+            (Some(one), Some(two)) => (one == two).then_some(Interval::of_number(bits, None)),
+            (Some(number), None) | (None, Some(number)) => Some(Interval::of_number(
+                bits,
+                Some(number),
+            )),
+            (None, None) => Some(Interval::of_number(bits, None)),
+        }
+    }
 }
 
-fn wide_u8(field: Option<u8>) -> Option<u64>
+pub(crate) fn wide_u8(field: Option<u8>) -> Option<u64>
     ensures same { result ≡ field }
     ensures fits { IsValidNumber 8 field }
 {
@@ -129,9 +186,19 @@ fn wide_u8(field: Option<u8>) -> Option<u64>
     }
 }
 
-fn wide_u16(field: Option<u16>) -> Option<u64>
+pub(crate) fn wide_u16(field: Option<u16>) -> Option<u64>
     ensures same { result ≡ field }
     ensures fits { IsValidNumber 16 field }
+{
+    match field {
+        None => None,
+        Some(number) => Some(u64::from(number)),
+    }
+}
+
+pub(crate) fn wide_u32(field: Option<u32>) -> Option<u64>
+    ensures same { result ≡ field }
+    ensures fits { IsValidNumber 32 field }
 {
     match field {
         None => None,

@@ -1,4 +1,4 @@
-//! Cells of headers, and the classes that the entries of a flow table cut them into.
+//! Cells of headers, the classes that the entries of a flow table cut them into, and what sets make of them.
 #![tactic(auto)]
 
 mod cell;
@@ -7,10 +7,13 @@ mod interval;
 pub mod laws;
 mod order;
 pub mod partition;
+mod rewrite;
+mod settle;
 
 pub use cell::{Cell, Cells, Classes};
 pub use cutting::cut;
 pub use interval::Interval;
+pub use rewrite::Rewrite;
 
 #[cfg(test)]
 mod tests;

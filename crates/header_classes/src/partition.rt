@@ -6,8 +6,8 @@ ghost use Rattle.of10_match.specs.declared.header.Header.{Header};
 ghost use Rattle.flow_table.specs.Best.{best_place};
 ghost use Rattle.header_classes.specs.Cell.{IsPartition, cells_of, in_cell, times};
 
-use crate::cell::{Cell, Cells, Classes};
-use crate::cutting::{add, one, take_out, takes_port};
+use crate::cell::{Cell, Cells, Classes, takes_port};
+use crate::cutting::{add, one, take_out};
 use crate::order::by_rank;
 use flow_table::Table;
 use of10_match::Match;

@@ -1,12 +1,12 @@
-//! Cuts and classes with ample memory.
+//! Cuts, classes and settled cells with ample memory.
 ghost use Rattle.std.specs.Prelude.{IfOk};
 ghost use Rattle.of10_messages.specs.Valid.{IsValidFlowMod};
 
 use super::partition::classes;
-use super::{Cell, cut};
+use super::{Cell, Cells, Rewrite, cut};
 use flow_table::{Command, Table};
 use of10_match::{Header, Match};
-use of10_messages::{FlowMod, no_actions};
+use of10_messages::{Action, FlowMod, no_actions};
 use std::alloc::Global;
 use std::test::Fail;
 
@@ -125,5 +125,61 @@ fn classes_of_tables(rt: HostRuntime) -> Result<(), Fail> {
         assert_eq!(rt; cell.least(), least);
         assert_eq!(rt; *best, Some(place));
     }
+    Ok(())
+}
+
+// What a match takes of all headers, where it takes the port.
+fn cell_of(matches: &Match) -> Result<Cell, Fail> {
+    if !matches.is_valid() {
+        return Err("the match is valid".into());
+    }
+    Ok(Cell::of_match(1, matches).ok_or("the match takes the port")?)
+}
+
+#[test]
+fn cells_settle_round_a_header(rt: HostRuntime) -> Result<(), Fail> {
+    let network = cell_of(&NETWORK)?;
+    for (address, inside, low, high) in [
+        (0x0a01_0203u32, true, 0x0a00_0000u32, 0x0aff_ffffu32),
+        (0, false, 0, 0x09ff_ffff),
+        (0xffff_ffff, false, 0x0b00_0000, 0xffff_ffff),
+    ] {
+        let header = from(address);
+        let mut cell = Cell::full();
+        if !cell.has(&header) {
+            return Err("the header is valid".into());
+        }
+        assert!(rt; cell.settle(&header, &network) == inside);
+        assert_eq!(rt; cell.least(), from(low));
+        assert!(rt; cell.has(&from(high)) && cell.has(&header));
+        assert!(rt; !cell.has(&from(high.wrapping_add(1))));
+    }
+    Ok(())
+}
+
+#[test]
+fn headers_before_sets(rt: HostRuntime) -> Result<(), Fail> {
+    let network = cell_of(&NETWORK)?;
+    let host = cell_of(&TO_HOST)?;
+    let mut sets = Rewrite::none();
+    sets.act(&Action::SetDlDst(2));
+    assert_eq!(rt; sets.before(&host), Some(Cell::full()));
+    assert_eq!(rt; sets.before(&network), Some(network));
+    assert_eq!(rt; sets.same_from(&Rewrite::none()), Some(host));
+    Ok(())
+}
+
+#[test]
+fn the_rest_of_a_cell(rt: HostRuntime) -> Result<(), Fail> {
+    let full = Cell::full();
+    let mut inner = full;
+    if !full.has(&ZERO) {
+        return Err("the header is valid".into());
+    }
+    assert!(rt; !inner.settle(&ZERO, &cell_of(&NETWORK)?));
+    let mut rest = Cells::new(rt.alloc());
+    full.add_rest(&inner, &mut rest)?;
+    assert!(rt; rest.len() == 1);
+    assert_eq!(rt; rest[0].least(), from(0x0a00_0000));
     Ok(())
 }

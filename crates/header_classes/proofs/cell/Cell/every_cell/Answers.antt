@@ -3,6 +3,7 @@ use Rattle.std.proofs.Common.{subst}
 use Rattle.header_classes.specs.Cell.{IsCell, widths}
 use Rattle.header_classes.proofs.Boxes.{inner_itself}
 use Rattle.header_classes.proofs.Headers.{in_cell-valid, least_inside, length-cell, lows}
+use Rattle.header_classes.proofs.Sizes.{size_some}
 use Rattle.header_classes.proofs.cell.Cell.every_cell.Goals as goal
 
 pub returns-clause-fields : goal.returns-clause-fields
@@ -18,3 +19,6 @@ pub returns-clause-some : goal.returns-clause-some
 returns-clause-some c =
     let cell = subst IsCell c.self.view_is c.self.invariant in
     (_, least_inside c.args.self.now _ cell (lows c.args.self.now cell))
+
+pub returns-clause-size : goal.returns-clause-size
+returns-clause-size c = size_some widths c.args.self.now (subst IsCell c.self.view_is c.self.invariant)
