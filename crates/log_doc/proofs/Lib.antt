@@ -1,3 +1,4 @@
+pub mod Holding
 pub mod WrittenEntries
 pub mod WrittenItems
 pub mod WrittenLogs

@@ -3,6 +3,7 @@
 
 mod entry;
 mod items;
+pub mod laws;
 mod log;
 mod rules;
 mod write_entry;

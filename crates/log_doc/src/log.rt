@@ -6,7 +6,9 @@ ghost use Rattle.message_pools.specs.Item.{IsValidItem};
 ghost use Rattle.doc_forms.specs.Forms.{list};
 ghost use Rattle.doc_forms.specs.Reading.{Gives};
 ghost use Rattle.doc_forms.specs.Texts.{IsRefused, IsText};
+ghost use Rattle.scenario_doc.specs.Fit.{IsFitInvariant};
 ghost use Rattle.scenario_doc.specs.Rules.{each};
+ghost use Rattle.scenario_doc.specs.WrittenScenario.{IsWritable};
 ghost use Rattle.log_doc.specs.Entries.{entry_of, entry_rules};
 ghost use Rattle.log_doc.specs.Log.{log_of};
 
@@ -15,6 +17,7 @@ use crate::rules::EntryRules;
 use doc_forms::{DocFail, Form, below, field, keyed, list, read_document};
 use event_machine::{Entries, Trace};
 use listed::Listed;
+use scenario_doc::laws::a_draft_that_keeps_its_rules_can_be_written;
 use scenario_doc::{DraftForm, Scenario, VersionForm, each};
 use serde_json::Value;
 use std::alloc::Global;
@@ -51,9 +54,11 @@ impl Form for LogForm {
 
     ghost form = { log_of };
 
-    ghost holds = { λ log. IsValidSetup log.scenario.setup × All (λ entry. IfSome entry.item IsValidItem) log.trace.entries };
+    ghost holds = { λ log. IsValidSetup log.scenario.setup × All (IsFitInvariant (length log.scenario.setup.topology.hosts)) log.scenario.invariants
+        × IsWritable log.scenario × All (λ entry. IfSome entry.item IsValidItem) log.trace.entries };
 
     fn read(alloc: Global, value: &Value) -> Result<Log, DocFail> {
+        a_draft_that_keeps_its_rules_can_be_written();
         keyed(alloc, value, &KEYS)?;
         let end = field::<EndForm>(alloc, value, "end")?;
         let entries = field::<EntriesForm>(alloc, value, "entries")?;
@@ -73,6 +78,8 @@ impl Form for LogForm {
 pub fn read_log(alloc: Global, bytes: &[u8]) -> Result<Log, DocFail>
     ensures read { IfOk result (λ log. IsText log_of bytes.now log) }
     ensures valid { IfOk result (λ log. IsValidSetup log.scenario.setup) }
+    ensures invariants { IfOk result (λ log. All (IsFitInvariant (length log.scenario.setup.topology.hosts)) log.scenario.invariants) }
+    ensures writable { IfOk result (λ log. IsWritable log.scenario) }
     ensures items { IfOk result (λ log. All (λ entry. IfSome entry.item IsValidItem) log.trace.entries) }
     ensures refused { IfErr result (λ why. IsRefused log_of bytes.now why) }
 {

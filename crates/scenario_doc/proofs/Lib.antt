@@ -5,6 +5,7 @@ pub mod FitNetwork
 pub mod FitPresets
 pub mod FitReading
 pub mod FitScript
+pub mod MadeBack
 pub mod NarrowNames
 pub mod SeenPlaces
 pub mod Walks

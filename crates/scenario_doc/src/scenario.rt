@@ -3,11 +3,13 @@ ghost use Rattle.std.specs.Prelude.{◌≡◌, ◌≤◌, All, IfErr, IfOk, leng
 ghost use Rattle.machine_setup.specs.Setup.{IsValidSetup};
 ghost use Rattle.doc_forms.specs.Reading.{Gives};
 ghost use Rattle.doc_forms.specs.Texts.{IsRefused, IsText};
-ghost use Rattle.scenario_doc.specs.Fit.{IsFit, IsFitPlan};
+ghost use Rattle.scenario_doc.specs.Fit.{IsFit, IsFitInvariant, IsFitPlan};
 ghost use Rattle.scenario_doc.specs.Scenario.{made, scenario_of};
+ghost use Rattle.scenario_doc.specs.WrittenScenario.{IsWritable};
 
 use crate::controllers::hosts_by;
 use crate::draft::{Draft, DraftForm, Invariants};
+use crate::laws::a_draft_that_keeps_its_rules_can_be_written;
 use controller_host::Host;
 use doc_forms::{DocFail, Form, read_document};
 use machine_setup::Setup;
@@ -27,6 +29,7 @@ impl Draft {
         requires { IsFit self }
         ensures made { IfOk result (λ scenario. scenario ≡ made self) }
         ensures valid { IfOk result (λ scenario. IsValidSetup scenario.setup) }
+        ensures invariants { IfOk result (λ scenario. All (IsFitInvariant (length scenario.setup.topology.hosts)) scenario.invariants) }
     {
         let Draft {
             topology,
@@ -58,9 +61,10 @@ impl Form for ScenarioForm {
 
     ghost form = { scenario_of };
 
-    ghost holds = { λ scenario. IsValidSetup scenario.setup };
+    ghost holds = { λ scenario. IsValidSetup scenario.setup × All (IsFitInvariant (length scenario.setup.topology.hosts)) scenario.invariants × IsWritable scenario };
 
     fn read(alloc: Global, value: &Value) -> Result<Scenario, DocFail> {
+        a_draft_that_keeps_its_rules_can_be_written();
         let draft = DraftForm::read(alloc, value)?;
         draft.check(alloc)?;
         Ok(draft.made(alloc)?)
@@ -71,6 +75,8 @@ impl Form for ScenarioForm {
 pub fn read_scenario(alloc: Global, bytes: &[u8]) -> Result<Scenario, DocFail>
     ensures read { IfOk result (λ scenario. IsText scenario_of bytes.now scenario) }
     ensures valid { IfOk result (λ scenario. IsValidSetup scenario.setup) }
+    ensures invariants { IfOk result (λ scenario. All (IsFitInvariant (length scenario.setup.topology.hosts)) scenario.invariants) }
+    ensures writable { IfOk result IsWritable }
     ensures refused { IfErr result (λ why. IsRefused scenario_of bytes.now why) }
 {
     read_document::<ScenarioForm>(alloc, bytes)
