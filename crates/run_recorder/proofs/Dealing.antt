@@ -80,6 +80,7 @@ module _ {C : Type 0} (recorder : Recorded C) where
       marked = marked;
       alone = ap (λ v. length v.own) is.1;
       idle = λ none. ap (λ v. concat v.own) is.1;
+      room = let nothing : length new.seen ≡ 0 = ap (λ v. length v.seen) is.1 ∙ ap length before.seen in omega arith;
     }
 
     pub idle_dealt : (part : Working C) → IsNoted (child old) part.view → IsIdle part
@@ -105,6 +106,7 @@ module _ {C : Type 0} (recorder : Recorded C) where
     marked = left.marked;
     alone = ap length left.own;
     idle = λ none. ap concat left.own;
+    room = let nothing : length view.seen ≡ 0 = ap length left.seen in omega arith;
   }
 
   pub idle_left : (view : View Entry (Subject C)) (dealt : ℕ) → IsUndealt recorder dealt view → (part : Working C) → part.view ≡ view → IsIdle part

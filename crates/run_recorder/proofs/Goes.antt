@@ -15,6 +15,7 @@ use Rattle.event_machine.specs.Legal.{IsHead, IsLegalEvent, IsLegalIn, IsNextOfW
 use Rattle.event_machine.specs.declared.trace.Entry.{Entry}
 use Rattle.run_recorder.specs.Recording.{Begun, IsBegun, IsComplete, IsDealt, MayStand, item_for, world_at}
 use Rattle.run_recorder.specs.Workers.{worker_of}
+use Rattle.run_recorder.proofs.Holding.{EventsOn, holding_on}
 
 -- an event that takes the first item of its pool takes what stands first there
 takes_first : (shared : Shared) (event : Event) (item : Option Item) → IsHead shared event item → IsHead shared event (item_for shared event)
@@ -63,12 +64,12 @@ module _ {C : Type 0} where
 
     -- The beginning of a run goes on by an entry that may stand next.
     pub begun_on : (setup : Setup C) (entries : List Entry) (world new : Situation C) (entry : Entry)
-        → SoundOn → WorldOn
+        → SoundOn → WorldOn → EventsOn react first
         → IsBegun react first policies (record { setup = setup; entries = entries; world = world })
         → ¬ IsComplete react first setup entries → IsLegalEvent setup world entry.event entry.item → IsNextOfWorker entries (length entries) entry
         → new ≡ next react setup world entry.event → Fits policies setup new
         → IsBegun react first policies (record { setup = setup; entries = entries ++ entry ∷ []; world = new })
-    begun_on setup entries world new entry sound_on world_on begun undone legal number now fits =
+    begun_on setup entries world new entry sound_on world_on events_on begun undone legal number now fits =
         let room = has_room setup entries begun.few undone in
         let longer : length (entries ++ entry ∷ []) ≡ length entries + 1 = length-append entries (entry ∷ []) in
         let there : IsLegalEvent setup (world_at react first setup entries) entry.event entry.item = subst (λ (w : Situation C). IsLegalEvent setup w entry.event entry.item) begun.comes_to legal in
@@ -78,4 +79,5 @@ module _ {C : Type 0} where
           fits = fits;
           sound = sound_on setup entries entry begun.sound (room, there) number;
           few = omega arith;
+          holding = holding_on react first policies (record { setup = setup; entries = entries; world = world }) entry events_on begun legal;
         }

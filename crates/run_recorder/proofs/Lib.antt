@@ -8,3 +8,6 @@ pub mod Dealing
 pub mod Actors
 pub mod Due
 pub mod Turns
+pub mod Holding
+pub mod Rounds
+pub mod Leaving

@@ -5,3 +5,4 @@ pub mod Answers
 pub mod Parts
 pub mod Recorder
 pub mod Gates
+pub mod Driving

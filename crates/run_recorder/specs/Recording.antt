@@ -14,6 +14,7 @@ use Rattle.event_world.specs.Fits.{Fits}
 use Rattle.event_world.specs.Mail.{Shared}
 use Rattle.event_world.specs.World.{Situation, head_for}
 use Rattle.event_world.specs.declared.event.Event.{Event}
+use Rattle.event_machine.specs.Holding.{IsEntryOf}
 use Rattle.event_machine.specs.Legal.{IsDone, IsLegalEvent, IsSoundTo, world_before}
 use Rattle.event_machine.specs.declared.trace.Entry.{Entry}
 use Rattle.run_recorder.specs.Workers.{entry_mark, marks_for, worker_of}
@@ -56,7 +57,7 @@ module _ {C : Type 0} where
   IsDealt setup workers entries = All (λ entry. entry.worker ≡ worker_of setup workers (actor_of entry.event)) entries
 
   -- What a worker's seat is: it has the worker's marks and no others, nothing was joined into it, and it is about the setup and the
-  -- number of workers. Worker 0 has entered nothing.
+  -- number of workers. Worker 0 has entered nothing. The history that was seen has no more entries than it may have.
   pub record IsWorking (working : Working C) : Type 0 where
     pub valid : IsValidSetup working.setup
     pub some : 1 ≤ working.workers
@@ -69,6 +70,7 @@ module _ {C : Type 0} where
     pub marked : IsMarked entry_mark working.view
     pub alone : length working.view.own ≡ 1
     pub idle : working.worker ≡ 0 → concat working.view.own ≡ []
+    pub room : length working.view.seen ≤ working.setup.limits.max_events
 
 module _ {C : Type 0} (react : C → UpItem → Reaction C) (first : C → C) where
   -- the world after entries
@@ -79,13 +81,14 @@ module _ {C : Type 0} (react : C → UpItem → Reaction C) (first : C → C) wh
   abbrev pub IsComplete : Setup C → List Entry → Type 0
   IsComplete setup entries = IsDone setup (world_at setup entries) ⊎ (length entries ≡ setup.limits.max_events)
 
-  -- the entries are the beginning of a legal run, and lead to the world
+  -- the entries are the beginning of a legal run, and lead to the world; each is one that a run of the setup can have
   pub record IsBegun (policies : C → ℕ) (begun : Begun C) : Type 0 where
     pub valid : IsValidSetup begun.setup
     pub comes_to : begun.world ≡ world_at begun.setup begun.entries
     pub fits : Fits policies begun.setup begun.world
     pub sound : IsSoundTo react first begun.setup begun.entries (length begun.entries)
     pub few : length begun.entries ≤ begun.setup.limits.max_events
+    pub holding : All (IsEntryOf begun.setup) begun.entries
 
   -- and each entry is of the worker that has its actor
   pub record IsRecording (policies : C → ℕ) (recording : Recording C) : Type 0 where

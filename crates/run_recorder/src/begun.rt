@@ -4,6 +4,7 @@ ghost use Rattle.machine_setup.specs.Setup.{IsValidSetup};
 ghost use Rattle.event_world.specs.Answers.{IsActor, first_event_of};
 ghost use Rattle.event_world.specs.World.{head_number};
 ghost use Rattle.event_world.specs.Fits.{Fits};
+ghost use Rattle.event_machine.specs.Holding.{IsEntryOf};
 ghost use Rattle.event_machine.specs.Legal.{EndsAs, IsLegalRun, earlier_of, world_after};
 ghost use Rattle.event_machine.specs.Rule.{rule_event};
 ghost use Rattle.run_recorder.specs.Recording.{IsBegun, IsComplete, MayStand, entry_in, item_for};
@@ -151,6 +152,7 @@ impl<'a, C: Controller> Begun<'a, C> {
         ensures world { IfOk result (λ r. r.1 ≡ world_after C.react C.start self.entry.setup r.0) }
         ensures fits { IfOk result (λ r. Fits C.policies self.entry.setup r.1) }
         ensures rest { IfOk result (λ r. GoesOnAlone C.react C.start self.entry.setup self.entry.entries r.0.entries) }
+        ensures holding { IfOk result (λ r. All (IsEntryOf self.entry.setup) r.0.entries) }
     {
         let mut begun = self;
         let mut number = 0;
@@ -195,6 +197,7 @@ impl<'a, C: Controller> Begun<'a, C> {
         ensures entries { result.0.entries ≡ self.entry.entries }
         ensures world { result.1 ≡ world_after C.react C.start self.entry.setup result.0 }
         ensures fits { Fits C.policies self.entry.setup result.1 }
+        ensures holding { All (IsEntryOf self.entry.setup) result.0.entries }
     {
         let end = self.ending();
         let Begun {

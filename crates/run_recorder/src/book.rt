@@ -80,7 +80,8 @@ impl<'a, C: Controller> RunBook<'a, C> {
     /// What there is to do for an actor.
     pub(crate) fn find(&self, actor: Actor) -> Offered
         requires { IsActor self.now.begun.setup actor }
-        ensures { IsFound C.react C.start self.now.begun.setup self.now.begun.entries actor result }
+        ensures found { IsFound C.react C.start self.now.begun.setup self.now.begun.entries actor result }
+        ensures room { length self.now.begun.entries ≤ self.now.begun.setup.limits.max_events }
     {
         let place = self.begun.len();
         if self.begun.is_complete() {
@@ -100,6 +101,7 @@ impl<'a, C: Controller> RunBook<'a, C> {
         ensures setup { self.new.begun.setup ≡ self.old.begun.setup }
         ensures workers { self.new.workers ≡ self.old.workers }
         ensures answer { BecomesOf C.react C.start self.old.begun.setup self.old.begun.entries self.new.begun.entries worker number deed result }
+        ensures room { length self.new.begun.entries ≤ self.new.begun.setup.limits.max_events }
     {
         let event = deed.task.event;
         let place = self.begun.len();

@@ -4,6 +4,7 @@
 mod answers;
 mod begun;
 mod book;
+mod drive;
 mod gate;
 pub mod laws;
 mod part;
@@ -12,6 +13,7 @@ mod task;
 
 pub use answers::{Committed, Offered};
 pub use book::Subject;
+pub use drive::Left;
 pub use gate::{Gate, OpenGate};
 pub use part::{Part, Parts};
 pub use recorder::Recorder;

@@ -170,6 +170,13 @@ impl<'a, C: Controller> Part<'a, C> {
         }
     }
 
+    // What is known of it between two turns.
+    pub(crate) fn known(&self)
+        ensures { IsWorking self.now }
+    {
+        let _ = &self.place;
+    }
+
     // Its seat.
     pub(crate) fn into_seat(self) -> RunSeat<'a, C>
         ensures seat { self.entry ≡ working_of self.entry.setup self.entry.workers self.entry.worker (Some result) }

@@ -7,6 +7,7 @@ ghost use Rattle.turn_book.specs.Steps.{left, opener};
 ghost use Rattle.turn_book.specs.Words.{IsSeatOf, book_id, held_book, held_id, held_view, view_of};
 ghost use Rattle.event_world.specs.Answers.{IsActor, IsInputEvent};
 ghost use Rattle.event_world.specs.Events.{actor_of};
+ghost use Rattle.event_machine.specs.Holding.{IsEntryOf};
 ghost use Rattle.event_machine.specs.Legal.{IsLegalRun, earlier_of, world_after};
 ghost use Rattle.event_world.specs.Fits.{Fits};
 ghost use Rattle.run_recorder.specs.Answers.{AreDealt, AreParts, BecomesOf, HasActor, HasSeenOf, IsCommit, IsDue, IsFound, IsGivenBack, IsIdle, IsOffer, IsOwnerOf, IsPartOf, RestComesLast};
@@ -32,7 +33,7 @@ use turn_book::{Held, TurnBook, Turned};
 #[derive(Drop)]
 pub struct Recorder<'a, C: Controller> {
     turns: TurnBook<RunBook<'a, C>>,
-    setup: &'a Setup<C>,
+    pub(crate) setup: &'a Setup<C>,
     workers: u32,
 }
 
@@ -150,6 +151,7 @@ impl<'a, C: Controller> Recorder<'a, C> {
         ensures dealt { IfOk result (λ r. AreDealt (recorded self.entry).setup (recorded self.entry).workers r.0.entries) }
         ensures last { IfOk result (λ r. RestComesLast r.0.entries) }
         ensures ruled { IfOk result (λ r. RestIsRuled C.react C.start (recorded self.entry).setup r.0.entries) }
+        ensures holding { IfOk result (λ r. All (IsEntryOf (recorded self.entry).setup) r.0.entries) }
     {
         let seat = self.gathered(parts);
         let Recorder {
@@ -250,6 +252,7 @@ fn find<'a, C: Controller>(
     ensures view { view_of result.0 ≡ left (2 * length (held_view held.entry).seen) (held_view held.entry) }
     ensures marked { IsMarked entry_mark (view_of result.0) }
     ensures found { IsFound C.react C.start (held_book held.entry).begun.setup (held_view held.entry).seen actor result.1 }
+    ensures room { length (view_of result.0).seen ≤ (held_book held.entry).begun.setup.limits.max_events }
 {
     let offered = held.book().find(actor);
     (held.leave(), offered)
@@ -272,6 +275,7 @@ fn enter<'a, C: Controller>(
     ensures marked { IsMarked entry_mark (view_of result.0) }
     ensures becomes { BecomesOf C.react C.start (held_book held.entry).begun.setup (held_view held.entry).seen (view_of result.0).seen worker number deed result.1 }
     ensures view { IsGivenBack (held_view held.entry) (view_of result.0) result.1 }
+    ensures room { length (view_of result.0).seen ≤ (held_book held.entry).begun.setup.limits.max_events }
 {
     let committed = held.book().enter(worker, number, deed);
     match committed {

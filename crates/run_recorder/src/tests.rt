@@ -5,7 +5,7 @@ ghost use Rattle.run_recorder.specs.Answers.{IsPartOf};
 ghost use Rattle.run_recorder.specs.Recorder.{recorded};
 
 use super::laws::an_offer_is_due;
-use super::{Committed, Gate, Offered, OpenGate, Part, Recorder};
+use super::{Committed, Gate, Left, Offered, OpenGate, Part, Recorder};
 use controller_api::{Controller, Outbox, UpItem};
 use event_machine::{Actor, End, Input, Limits, Line, Setup};
 use listed::Listed;
@@ -43,7 +43,7 @@ impl Controller for Idle {
 }
 
 // A switch of one port, and a script that lets a second pass.
-fn setup(alloc: Global) -> Result<Setup<Idle>, AllocError> {
+fn setup(alloc: Global, workers: u32, patience: u32) -> Result<Setup<Idle>, AllocError> {
     Ok(Setup {
         topology: Topology {
             ports: Listed::of(vec![in alloc; 1u16]?),
@@ -62,8 +62,8 @@ fn setup(alloc: Global) -> Result<Setup<Idle>, AllocError> {
         limits: Limits {
             max_events: 10,
             budget: 0,
-            workers: 1,
-            patience: 0,
+            workers,
+            patience,
         },
     })
 }
@@ -93,7 +93,7 @@ fn go_on<'a>(
 
 #[test]
 fn one_worker_records(rt: HostRuntime) -> Result<(), Fail> {
-    let setup = setup(rt.alloc())?;
+    let setup = setup(rt.alloc(), 1, 0)?;
     assert!(rt; setup.is_valid(rt.alloc())?);
     let (recorder, mut parts) = Recorder::open(rt.alloc(), &setup, 1)?;
     let mut part = parts.remove(1);
@@ -108,12 +108,24 @@ fn one_worker_records(rt: HostRuntime) -> Result<(), Fail> {
 
 #[test]
 fn the_rest_is_recorded_alone(rt: HostRuntime) -> Result<(), Fail> {
-    let setup = setup(rt.alloc())?;
+    let setup = setup(rt.alloc(), 1, 0)?;
     assert!(rt; setup.is_valid(rt.alloc())?);
     let (recorder, parts) = Recorder::open(rt.alloc(), &setup, 1)?;
     let (trace, world) = recorder.rest(parts)?;
     assert_eq!(rt; (trace.entries.len(), trace.end), (2, End::Quiet));
     assert_eq!(rt; (world.events(), world.inputs()), (2, 1));
+    Ok(())
+}
+
+#[test]
+fn one_worker_goes_round(rt: HostRuntime) -> Result<(), Fail> {
+    let setup = setup(rt.alloc(), 1, 4)?;
+    assert!(rt; setup.is_valid(rt.alloc())?);
+    let (recorder, mut parts) = Recorder::open(rt.alloc(), &setup, 1)?;
+    let mut part = parts.remove(1);
+    let mut gate = OpenGate::new();
+    let left = recorder.drive(&mut part, &mut gate);
+    assert_eq!(rt; (left, part.own()), (Left::Ended { place: 2 }, 2));
     Ok(())
 }
 

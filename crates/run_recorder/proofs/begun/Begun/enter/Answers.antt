@@ -31,7 +31,7 @@ invariant_of-self-2 g c =
     let pushed : c.push.new.self.items ≡ entries ++ entry ∷ [] = search rules in
     let room : setup.limits.max_events ≤ vec_capacity c.push.new.self = search rules in
     let begun : IsBegun react first policies (record { setup = setup; entries = entries ++ entry ∷ []; world = c.step.new.self }) =
-    begun_on react first policies setup entries world c.step.new.self entry c.a_history_goes_on_by_a_legal_entry.ensures.sound c.a_history_goes_on_by_a_legal_entry.ensures.world c.self.invariant.0 undone legal number stepped fits in
+    begun_on react first policies setup entries world c.step.new.self entry c.a_history_goes_on_by_a_legal_entry.ensures.sound c.a_history_goes_on_by_a_legal_entry.ensures.world c.a_history_goes_on_by_a_legal_entry.ensures.events c.self.invariant.0 undone legal number stepped fits in
     (subst (λ (all : List Entry). IsBegun react first policies (record { setup = setup; entries = all; world = c.step.new.self })) (sym pushed) begun, room)
 
 pub returns-clause-begun : goal.returns-clause-begun
