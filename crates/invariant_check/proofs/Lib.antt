@@ -1,0 +1,10 @@
+pub mod Depth
+pub mod Known
+pub mod Leads
+pub mod Reaches
+pub mod Sent
+pub mod Turns
+pub mod Walks
+pub mod OneWalk
+pub mod Leasts
+pub mod Verdicts

@@ -1,0 +1,4 @@
+mod Numbers
+mod Rings
+mod Running
+mod States
