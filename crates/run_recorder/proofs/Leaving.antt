@@ -1,11 +1,11 @@
 -- What a worker's rounds come to, until it leaves.
-use Rattle.std.proofs.Common.{◌≡◌, ℕ, zero, suc, ◌+◌, ◌-◌, ◌*◌, ◌^◌, ◌<◌, ◌≤◌, length, min, refl, ap, sym, ◌∙◌, subst, arith}
+use Rattle.std.proofs.Common.{◌≡◌, ℕ, ◌+◌, ◌-◌, ◌*◌, ◌^◌, ◌<◌, ◌≤◌, min, refl, arith}
 use Rattle.std.proofs.lemmas.Nat.{mul-le}
 use Rattle.controller_api.specs.Reaction.{Reaction}
 use Rattle.controller_api.specs.declared.item.UpItem.{UpItem}
 use Rattle.turn_book.proofs.Begins.{prefix_length}
-use Rattle.run_recorder.specs.Answers.{HasNoActor, IsPartOf, Recorded, own_places}
-use Rattle.run_recorder.specs.Driving.{AfterRound, HasLeft, IsErrand, IsSameWorker, IsTold, entered, looks}
+use Rattle.run_recorder.specs.Answers.{HasNoActor, own_places}
+use Rattle.run_recorder.specs.Driving.{AfterRound, HasLeft, IsErrand, IsSameWorker, entered, looks}
 use Rattle.run_recorder.specs.Gates.{Rise}
 use Rattle.run_recorder.specs.Recording.{Working}
 use Rattle.run_recorder.specs.declared.drive.Errand.{Errand}

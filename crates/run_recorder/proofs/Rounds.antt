@@ -1,5 +1,5 @@
 -- What a worker comes to by one round.
-use Rattle.std.proofs.Common.{◌≡◌, ℕ, ◌+◌, ◌*◌, ◌<◌, ◌≤◌, List, [], ◌∷◌, ◌++◌, length, Some, inl, inr, refl, ap, sym, ◌∙◌, subst, arith, append-nil, length-append}
+use Rattle.std.proofs.Common.{◌≡◌, ℕ, ◌+◌, ◌*◌, ◌≤◌, List, [], ◌∷◌, ◌++◌, length, inl, inr, refl, ap, sym, ◌∙◌, subst, arith, append-nil, length-append}
 use Rattle.std.specs.List.{concat}
 use mathlib.Core.List.{IsPrefix}
 use Rattle.controller_api.specs.Reaction.{Reaction}
@@ -15,7 +15,7 @@ use Rattle.event_world.specs.Answers.{IsActor}
 use Rattle.event_world.specs.Events.{actor_of}
 use Rattle.event_machine.specs.declared.trace.Entry.{Entry}
 use Rattle.run_recorder.specs.Answers.{HasActor, IsCommit, IsDue, IsEntered, IsLook, IsOffer, IsRefused, own_places}
-use Rattle.run_recorder.specs.Driving.{AfterRound, IsSameWorker, IsTold, entered, looks}
+use Rattle.run_recorder.specs.Driving.{AfterRound, IsSameWorker, entered, looks}
 use Rattle.run_recorder.specs.Recording.{IsComplete, Working}
 use Rattle.run_recorder.specs.Workers.{worker_of}
 use Rattle.run_recorder.specs.declared.answers.Offered.{Offered}

@@ -1,4 +1,4 @@
-use Rattle.std.proofs.Common.{◌≡◌, ◌+◌, ◌-◌, ◌<◌, ◌≤◌, ap, sym, subst, length, arith}
+use Rattle.std.proofs.Common.{◌+◌, ◌-◌, ap, length, arith}
 use Rattle.machine_setup.specs.declared.setup.Setup.{Setup}
 use Rattle.turn_book.proofs.Begins.{prefix_length}
 use Rattle.run_recorder.proofs.Leaving.{driven_entered, driven_first, driven_vain, left_ended, left_no_memory, left_tired, nearer_by_entry, nearer_in_vain}

@@ -1,4 +1,4 @@
-use Rattle.std.proofs.Common.{◌≤◌, ◌≡◌, ◌-◌, length}
+use Rattle.std.proofs.Common.{◌-◌, length}
 use Rattle.run_recorder.proofs.Leaving.{IsDriven, rounds_left}
 use Rattle.run_recorder.specs.Answers.{IsPartOf}
 use Rattle.run_recorder.specs.Recorder.{recorded}
