@@ -1,15 +1,14 @@
 -- What can be judged: a network with a table for each switch, and an invariant.
-use Rattle.std.specs.Prelude.{◌≡◌, ◌≤◌, All, length, ⊤}
+use Rattle.std.specs.Prelude.{◌≡◌, length, ⊤}
 use Rattle.of10_match.specs.Match.{IsValidMatch}
 use Rattle.topology.specs.Status.{IsStatus}
 use Rattle.topology.specs.declared.invariant.Invariant.{Invariant}
 use Rattle.topology.specs.declared.invariant.Invariant.TheVariants.{Forbid}
 use Rattle.event_world.specs.declared.net_state.NetState.{NetState}
 
--- The status is one of the topology, no switch has more ports than a switch can have, and each switch has a table.
+-- The status is one of the topology, and each switch has a table.
 pub record IsNet (net : NetState) : Type 0 where
   pub status : IsStatus net.topology net.status
-  pub ports : All (λ ports. ports ≤ 48) net.topology.ports
   pub tables : length net.tables ≡ length net.topology.ports
 
 -- the match of an invariant is valid

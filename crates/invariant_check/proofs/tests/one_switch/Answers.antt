@@ -27,7 +27,6 @@ one_is_net net ports links hosts status tables =
         few_links = rw links (lit< tt);
         few_hosts = rw hosts (lit< tt);
       };
-      ports = rw ports (All-from_recursion (λ (n : ℕ). n ≤ 48) (2 ∷ []) (omega arith, tt));
       tables = rw (ports, tables) refl;
     }
 

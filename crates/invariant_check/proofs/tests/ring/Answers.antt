@@ -34,7 +34,6 @@ ring_is_net net ports links hosts status tables apart =
         few_links = rw links (lit< tt);
         few_hosts = rw hosts (lit< tt);
       };
-      ports = rw ports (All-from_recursion (λ (n : ℕ). n ≤ 48) (3 ∷ 3 ∷ 3 ∷ []) (omega arith, (omega arith, (omega arith, tt))));
       tables = rw (ports, tables) refl;
     }
 
