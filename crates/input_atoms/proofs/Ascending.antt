@@ -1,4 +1,4 @@
--- Parts and rests keep the order of a list, and have its elements alone.
+-- Parts and complements keep the order of a list, and have its elements alone.
 use Rattle.std.proofs.Common.{◌≡◌, ℕ, Bool, ◌+◌, ◌-◌, ◌<◌, ◌≤◌, List, ◌++◌, length, take, drop, All, AllPairs, get_or, inl, inr, arith, length-take, length-drop, length-append, refl, get_or-take, get_or-drop, min}
 use Rattle.std.specs.List.{range_with_len}
 use Rattle.std.proofs.lemmas.Bool.{cases_lt}
@@ -52,11 +52,11 @@ ascending n i j d order within =
     let here : i < n = omega arith in
     rw (get_or-range_with_len 0 n i d here, get_or-range_with_len 0 n j d there) (omega arith)
 
-pub ascends : (test : List ℕ → Bool) (n : ℕ) (left : List ℕ) → IsReduced test (range_with_len 0 n) 2 left → AllPairs (λ one other. one < other) left
+pub ascends : (test : List ℕ → Bool → Type 0) (n : ℕ) (left : List ℕ) → IsReduced test (range_with_len 0 n) 2 left → AllPairs (λ one other. one < other) left
 ascends test n left reduced = kept (λ list. AllPairs (λ one other. one < other) list) (λ list parts k pairs. pairs_between (λ one other. one < other) list pairs (begin_of (length list) parts k) (begin_of (length list) parts (k + 1) - begin_of (length list) parts k))
     (λ list parts k pairs. pairs_around (λ one other. one < other) list pairs (begin_of (length list) parts k) (begin_of (length list) parts (k + 1)) (begin_rises (length list) parts k)) reduced (ascending n)
 
-pub among : (test : List ℕ → Bool) (n : ℕ) (left : List ℕ) → IsReduced test (range_with_len 0 n) 2 left → All (λ k. k < n) left
+pub among : (test : List ℕ → Bool → Type 0) (n : ℕ) (left : List ℕ) → IsReduced test (range_with_len 0 n) 2 left → All (λ k. k < n) left
 among test n left reduced = kept (λ list. All (λ k. k < n) list)
     (λ list parts k all. All-take (λ k. k < n) (begin_of (length list) parts (k + 1) - begin_of (length list) parts k) (drop (begin_of (length list) parts k) list) (All-drop (λ k. k < n) (begin_of (length list) parts k) list all))
     (λ list parts k all. All-append (λ k. k < n) (take (begin_of (length list) parts k) list) (drop (begin_of (length list) parts (k + 1)) list) (All-take (λ k. k < n) (begin_of (length list) parts k) list all) (All-drop (λ k. k < n) (begin_of (length list) parts (k + 1)) list all))

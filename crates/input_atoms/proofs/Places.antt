@@ -1,6 +1,6 @@
 -- Where the parts of a list begin, and how long they are.
 use Rattle.std.proofs.Common.{◌≡◌, ℕ, ◌+◌, ◌-◌, ◌/◌, ◌<◌, ◌≤◌, zero, suc, List, length, arith, length-take, length-drop, length-append, add-one, append-nil}
-use Rattle.input_atoms.specs.Cutting.{begin_of, part_of, rest_of}
+use Rattle.input_atoms.specs.Cutting.{begin_of, part_of, complement_of}
 use Rattle.std.specs.List.{remove}
 use Rattle.std.proofs.Math.Nat.{div_self, mod_self, mul-le-mul_right, sub-zero, le-div_iff_mul-le}
 use Rattle.std.proofs.lemmas.List.{take_rest, drop_all}
@@ -33,11 +33,11 @@ unfolding begin_of
 begin_first size parts = omega arith
 
 -- of two parts, what the first leaves is the second, and the other way round
-pub rest_first : (list : List ℕ) → rest_of list 2 0 ≡ part_of list 2 1
-rest_first list = rw (begin_first (length list) 2, begin_last (length list) 2 (omega arith), take_rest list (begin_of (length list) 2 1))
+pub complement_first : (list : List ℕ) → complement_of list 2 0 ≡ part_of list 2 1
+complement_first list = rw (begin_first (length list) 2, begin_last (length list) 2 (omega arith), take_rest list (begin_of (length list) 2 1))
 
-pub rest_second : (list : List ℕ) → rest_of list 2 1 ≡ part_of list 2 0
-rest_second list = rw (begin_first (length list) 2, begin_last (length list) 2 (omega arith), drop_all (length list) list (omega arith), append-nil, sub-zero)
+pub complement_second : (list : List ℕ) → complement_of list 2 1 ≡ part_of list 2 0
+complement_second list = rw (begin_first (length list) 2, begin_last (length list) 2 (omega arith), drop_all (length list) list (omega arith), append-nil, sub-zero)
 
 -- there is room for the parts before one
 begin_after : (size parts part : ℕ) → 0 < parts → parts ≤ size → part ≤ begin_of size parts part
@@ -55,13 +55,13 @@ module _ (list : List ℕ) (parts part : ℕ) (two : 2 ≤ parts) (full : parts 
   part_shorter = simp (length-take, length-drop) (omega (arith, begin_after (length list) parts part (omega arith) full, begin_before (length list) parts (part + 1) (parts - (part + 1)) (omega arith) full (omega arith)))
 
   -- so is the list without a part
-  pub rest_shorter : length (rest_of list parts part) < length list
-  rest_shorter = simp (length-append, length-take, length-drop) (omega (arith, begin_more (length list) parts part (omega arith) full, begin_within (length list) parts (part + 1) (omega arith) (omega arith)))
+  pub complement_shorter : length (complement_of list parts part) < length list
+  complement_shorter = simp (length-append, length-take, length-drop) (omega (arith, begin_more (length list) parts part (omega arith) full, begin_within (length list) parts (part + 1) (omega arith) (omega arith)))
 
   -- and it can be cut into one part fewer
-  pub rest_full : parts ≤ length (rest_of list parts part) + 1
-  rest_full = simp (length-append, length-take, length-drop) (omega (arith, begin_after (length list) parts part (omega arith) full, begin_before (length list) parts (part + 1) (parts - (part + 1)) (omega arith) full (omega arith), begin_within (length list) parts part (omega arith) (omega arith)))
+  pub complement_full : parts ≤ length (complement_of list parts part) + 1
+  complement_full = simp (length-append, length-take, length-drop) (omega (arith, begin_after (length list) parts part (omega arith) full, begin_before (length list) parts (part + 1) (parts - (part + 1)) (omega arith) full (omega arith), begin_within (length list) parts part (omega arith) (omega arith)))
 
 -- what a part that is a single element leaves
-pub rest_single : (list : List ℕ) (parts part : ℕ) → parts ≡ length list → part < length list → rest_of list parts part ≡ remove list part
-rest_single list parts part e within = let some : 0 < length list = omega arith in rw (e, begin_single (length list) part some, begin_single (length list) (part + 1) some, add-one part)
+pub complement_single : (list : List ℕ) (parts part : ℕ) → parts ≡ length list → part < length list → complement_of list parts part ≡ remove list part
+complement_single list parts part e within = let some : 0 < length list = omega arith in rw (e, begin_single (length list) part some, begin_single (length list) (part + 1) some, add-one part)

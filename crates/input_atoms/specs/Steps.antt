@@ -17,7 +17,7 @@ abbrev pub work : List ℕ → ℕ → ℕ
 work list parts = length list * 2 ^ 32 + (length list - parts)
 
 -- what is left of the second list is what is left of the first, which is farther from the end
-pub record GoesOn (test : List ℕ → Bool) (list : List ℕ) (parts : ℕ) (next : List ℕ) (next_parts : ℕ) : Type 0 where
+pub record GoesOn (test : List ℕ → Bool → Type 0) (list : List ℕ) (parts : ℕ) (next : List ℕ) (next_parts : ℕ) : Type 0 where
   pub cut : IsInParts next next_parts
   pub nearer : work next next_parts < work list parts
   pub back : (left : List ℕ) → IsReduced test next next_parts left → IsReduced test list parts left

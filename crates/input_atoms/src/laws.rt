@@ -1,31 +1,42 @@
-//! Laws of the definitions, each the contract of a function that does nothing.
-ghost use Rattle.std.specs.Prelude.{◌≡◌, ℕ, ◌<◌, ◌≤◌, ◌^◌, List, [], length, slice_get, slice_index, Bool, true, false, Some, All, AllPairs, Contains};
-ghost use Rattle.std.specs.List.{range_with_len};
+//! Laws of the definitions, each the contract of a function that does nothing. Those of reductions hold of every test.
+ghost use Rattle.std.specs.Prelude.{◌≡◌, ℕ, ◌<◌, ◌≤◌, ◌^◌, ◌⊎◌, List, [], length, slice_get, slice_index, Bool, true, false, Some, All, AllPairs, Contains, ⊤};
+ghost use Rattle.std.specs.List.{range_with_len, remove};
 ghost use Rattle.machine_setup.specs.declared.script.Line.{Line};
 ghost use Rattle.input_atoms.specs.Atoms.{atoms_of};
-ghost use Rattle.input_atoms.specs.Ddmin.{IsMinimal, IsReduced};
+ghost use Rattle.input_atoms.specs.Cutting.{NoneFails};
+ghost use Rattle.input_atoms.specs.Ddmin.{IsOneMinimal, IsReduced};
+
+use std::marker::Brand;
+
+/// A test, which tells of a list whether it fails. A law that is called at `Brand` is that of a test which its caller picks.
+pub trait Test {
+    ghost test: { List ℕ → Bool → Type 0 };
+}
+
+impl Test for Brand {
+    ghost test = { λ _ _. ⊤ };
+}
 
 /// Where the whole list fails and the empty one does not, what is left of it fails, and no longer without any one of its
-/// elements.
-pub fn what_is_left_is_minimal()
-    ensures { (test : List ℕ → Bool) (list left : List ℕ) → test list ≡ true → test [] ≡ false
-        → IsReduced test list 2 left → IsMinimal test left }
+/// elements. That none can be left out, the empty list gives alone.
+pub fn what_is_left_is_minimal<T: Test>()
+    ensures minimal { (list left : List ℕ) → T.test list true → T.test [] false → IsReduced T.test list 2 left → IsOneMinimal T.test left }
+    ensures needed { (list left : List ℕ) → T.test [] false → IsReduced T.test list 2 left → NoneFails T.test (remove left) (length left) }
 {}
 
-/// Exactly one list is left.
-pub fn what_is_left_is_determined()
-    ensures some { (test : List ℕ → Bool) (list : List ℕ) → length list < 2 ^ 32
-        → (left : List ℕ) × IsReduced test list 2 left }
-    ensures one { (test : List ℕ → Bool) (list one other : List ℕ) (parts : ℕ)
-        → IsReduced test list parts one → IsReduced test list parts other → one ≡ other }
+/// Some list is left, where the test tells of each list whether it fails; and no other one, where it tells of none both.
+pub fn what_is_left_is_determined<T: Test>()
+    ensures some { (list : List ℕ) → length list < 2 ^ 32 → ((list : List ℕ) → T.test list true ⊎ T.test list false)
+        → (left : List ℕ) × IsReduced T.test list 2 left }
+    ensures one { (list one other : List ℕ) (parts : ℕ) → ((list : List ℕ) → T.test list true → T.test list false → ⊥)
+        → IsReduced T.test list parts one → IsReduced T.test list parts other → one ≡ other }
 {}
 
 /// What is left of the first numbers ascends, and is among them.
-pub fn what_is_left_ascends()
-    ensures ascends { (test : List ℕ → Bool) (n : ℕ) (left : List ℕ) → IsReduced test (range_with_len 0 n) 2 left
+pub fn what_is_left_ascends<T: Test>()
+    ensures ascends { (n : ℕ) (left : List ℕ) → IsReduced T.test (range_with_len 0 n) 2 left
         → AllPairs (λ one other. one < other) left }
-    ensures among { (test : List ℕ → Bool) (n : ℕ) (left : List ℕ) → IsReduced test (range_with_len 0 n) 2 left
-        → All (λ k. k < n) left }
+    ensures among { (n : ℕ) (left : List ℕ) → IsReduced T.test (range_with_len 0 n) 2 left → All (λ k. k < n) left }
 {}
 
 /// Every line of a script stands in exactly one atom, and an atom has no place but those of lines.

@@ -1,6 +1,6 @@
 //! The parts into which a list is cut, and which of them fails first.
 ghost use Rattle.std.specs.Prelude.{◌≡◌, ℕ, ◌<◌, ◌≤◌, ◌++◌, length, take, drop, MatchOption, IfOk};
-ghost use Rattle.input_atoms.specs.Cutting.{FirstFails, NoneFails, begin_of, part_of, rest_of};
+ghost use Rattle.input_atoms.specs.Cutting.{AreAlike, FirstFails, NoneFails, begin_of, part_of, complement_of};
 
 use crate::probe::Probe;
 use listed::Listed;
@@ -23,11 +23,13 @@ pub(crate) fn failing_part<P: Probe>(
     list: &[u32],
     parts: usize,
 ) -> Result<Option<Listed<u32>>, AllocError>
-    requires { 0 < parts }
+    requires some { 0 < parts }
+    requires asked { P.can_ask probe.old }
     ensures found { IfOk result (λ found. MatchOption found
         (NoneFails (P.fails_at probe.old) (part_of list.now parts) parts)
         (FirstFails (P.fails_at probe.old) (part_of list.now parts) parts)) }
-    ensures same { P.fails_at probe.new ≡ P.fails_at probe.old }
+    ensures same { AreAlike (P.fails_at probe.new) (P.fails_at probe.old) }
+    ensures again { P.can_ask probe.new }
 {
     for part in 0..parts {
         let from = begin(list.len(), parts, part);
@@ -43,18 +45,20 @@ pub(crate) fn failing_part<P: Probe>(
 /// The first part without which the list fails: the list without it. Of two parts each is the list without the other, and
 /// is not asked again.
 #[tactic(auto, using(crate::proofs::Places::begin_rises, crate::proofs::Places::begin_within))]
-pub(crate) fn failing_rest<P: Probe>(
+pub(crate) fn failing_complement<P: Probe>(
     alloc: Global,
     probe: &mut P,
     list: &[u32],
     parts: usize,
 ) -> Result<Option<Listed<u32>>, AllocError>
     requires some { 0 < parts }
+    requires asked { P.can_ask probe.old }
     requires none { NoneFails (P.fails_at probe.old) (part_of list.now parts) parts }
     ensures found { IfOk result (λ found. MatchOption found
-        (NoneFails (P.fails_at probe.old) (rest_of list.now parts) parts)
-        (FirstFails (P.fails_at probe.old) (rest_of list.now parts) parts)) }
-    ensures same { P.fails_at probe.new ≡ P.fails_at probe.old }
+        (NoneFails (P.fails_at probe.old) (complement_of list.now parts) parts)
+        (FirstFails (P.fails_at probe.old) (complement_of list.now parts) parts)) }
+    ensures same { AreAlike (P.fails_at probe.new) (P.fails_at probe.old) }
+    ensures again { P.can_ask probe.new }
 {
     if parts == 2 {
         return Ok(None);
@@ -62,9 +66,9 @@ pub(crate) fn failing_rest<P: Probe>(
     for part in 0..parts {
         let from = begin(list.len(), parts, part);
         let to = begin(list.len(), parts, part + 1);
-        let rest = without(alloc, list, from, to)?;
-        if probe.fails(rest.as_slice())? {
-            return Ok(Some(rest));
+        let complement = without(alloc, list, from, to)?;
+        if probe.fails(complement.as_slice())? {
+            return Ok(Some(complement));
         }
     }
     Ok(None)
@@ -74,9 +78,9 @@ pub(crate) fn failing_rest<P: Probe>(
 fn without(alloc: Global, list: &[u32], from: usize, to: usize) -> Result<Listed<u32>, AllocError>
     requires order { from ≤ to }
     requires within { to ≤ length list.now }
-    ensures { IfOk result (λ rest. rest ≡ take from list.now ++ drop to list.now) }
+    ensures { IfOk result (λ complement. complement ≡ take from list.now ++ drop to list.now) }
 {
-    let mut rest = list[..from].to_vec(alloc)?;
-    rest.extend_from_slice(&list[to..])?;
-    Ok(Listed::of(rest))
+    let mut complement = list[..from].to_vec(alloc)?;
+    complement.extend_from_slice(&list[to..])?;
+    Ok(Listed::of(complement))
 }

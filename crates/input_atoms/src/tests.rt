@@ -12,10 +12,10 @@ struct TwoAndFive {
 }
 
 impl Probe for TwoAndFive {
-    ghost use Rattle.std.specs.Prelude.{◌&&◌, ◌==◌};
+    ghost use Rattle.std.specs.Prelude.{◌≡◌, ◌&&◌, ◌==◌};
     ghost use Rattle.std.specs.List.{list_any};
 
-    ghost fails_at = { λ _ keep. list_any (λ k. k == 2) keep && list_any (λ k. k == 5) keep };
+    ghost fails_at = { λ _ keep failed. failed ≡ (list_any (λ k. k == 2) keep && list_any (λ k. k == 5) keep) };
 
     fn fails(&mut self, keep: &[u32]) -> Result<bool, AllocError> {
         self.asked = self.asked.saturating_add(1);
