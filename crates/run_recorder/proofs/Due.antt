@@ -69,7 +69,7 @@ module _ {C : Type 0} (setup : Setup C) (workers : ℕ) where
       ∙ (ap (λ marks. times (entry_mark entry) marks) are ∙ mark_once worker entry.worker to (omega arith))
 
 -- and there are as many as its next number says
-own_number : (worker : ℕ) (entries : List Entry) (places : List ℕ)
+pub own_number : (worker : ℕ) (entries : List Entry) (places : List ℕ)
     → ((at : ℕ) (entry : Entry) → slice_get entries at ≡ Some entry → times at places ≡ one_if (entry.worker == worker))
     → ((at : ℕ) → length entries ≤ at → times at places ≡ 0)
     → length places ≡ earlier_of entries (length entries) worker

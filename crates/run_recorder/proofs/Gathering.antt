@@ -95,7 +95,7 @@ after_done [] rest x = refl
 after_done (y ∷ done) rest x = after_done done rest x
 
 -- the first element, and the others
-first_and_rest : {X : Type 0} (xs : List X) (first : X) (rest : List X) → 0 < length xs → first ≡ slice_index_or xs 0 first → rest ≡ remove xs 0 → first ∷ rest ≡ xs
+pub first_and_rest : {X : Type 0} (xs : List X) (first : X) (rest : List X) → 0 < length xs → first ≡ slice_index_or xs 0 first → rest ≡ remove xs 0 → first ∷ rest ≡ xs
 first_and_rest [] first rest some head tail = absurd (omega arith)
 first_and_rest (x ∷ xs) first rest some head tail = ap (λ y. y ∷ rest) head ∙ ap (λ l. x ∷ l) tail
 

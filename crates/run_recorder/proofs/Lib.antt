@@ -7,7 +7,13 @@ pub mod Owners
 pub mod Dealing
 pub mod Actors
 pub mod Due
+pub mod Keeping
 pub mod Turns
 pub mod Holding
 pub mod Rounds
 pub mod Leaving
+pub mod Ended
+pub mod Stints
+pub mod Passes
+pub mod Called
+pub mod Growing

@@ -6,3 +6,4 @@ pub mod Parts
 pub mod Recorder
 pub mod Gates
 pub mod Driving
+pub mod AtOnce

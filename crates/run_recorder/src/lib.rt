@@ -2,6 +2,7 @@
 #![tactic(auto)]
 
 mod answers;
+mod at_once;
 mod begun;
 mod book;
 mod drive;
@@ -12,6 +13,7 @@ mod recorder;
 mod task;
 
 pub use answers::{Committed, Offered};
+pub use at_once::record;
 pub use book::Subject;
 pub use drive::Left;
 pub use gate::{Gate, OpenGate};
