@@ -1,0 +1,5 @@
+pub mod Everything
+pub mod Flags
+pub mod Inputs
+pub mod Left
+pub mod Needed
