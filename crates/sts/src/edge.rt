@@ -22,7 +22,9 @@ pub(crate) fn help(status: Status) -> Option<&'static str>
     ensures { option_map (λ line. line.now) result ≡ help_of status.code }
 {
     match status {
-        Status::WORDS => Some("usage: sts replay < LOG"),
+        Status::WORDS => Some(
+            "usage:\n  sts record < SCENARIO   the log of a run\n  sts check < LOG         its invariants judged over every packet header\n  sts replay < LOG        its replay with all inputs",
+        ),
         Status::READ_FAULT => Some("reading standard input failed"),
         Status::WRITE_FAULT => Some("writing standard output failed"),
         Status::OUT_OF_MEMORY => Some("out of memory"),

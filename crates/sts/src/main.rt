@@ -8,7 +8,7 @@ use std::io::ErrorKind;
 use std::process::ExitCode;
 use std::rt::Env;
 use std::{env, io};
-use sts_cli::sts;
+use sts_cli::{open_gates, sts};
 use sts_io::{StdSink, StdSource};
 
 fn main(rt: HostRuntime) -> ExitCode {
@@ -16,7 +16,15 @@ fn main(rt: HostRuntime) -> ExitCode {
         Ok(words) => {
             let mut source = StdSource::new(rt.reader());
             let mut sink = StdSink::new(io::writer(&rt));
-            sts(&rt, rt.alloc(), words.as_slice(), &mut source, &mut sink)
+            let mut gates = open_gates();
+            sts(
+                &rt,
+                rt.alloc(),
+                words.as_slice(),
+                &mut source,
+                &mut sink,
+                &mut gates,
+            )
         }
         Err(error) => without_words(error.kind() == ErrorKind::OutOfMemory),
     };

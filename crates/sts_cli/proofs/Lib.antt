@@ -1,3 +1,6 @@
-pub mod Judged
-pub mod Words
+pub mod Lone
+pub mod Judging
+pub mod Saying
+pub mod Recorded
+pub mod Ending
 pub mod Unique

@@ -1,7 +1,8 @@
 -- Bytes have one answer.
-use Rattle.std.proofs.Common.{◌≡◌, ℕ, ◌<◌, Bool, List, length, slice_get, Some, Ok, Err, refl, sym, ◌∙◌, ap, ap₂, subst, inl, inr}
+use Rattle.std.proofs.Common.{◌≡◌, ℕ, ◌<◌, Bool, List, [], ◌∷◌, length, slice_get, Some, Ok, Err, refl, sym, ◌∙◌, ap, ap₂, subst, inl, inr}
 use Rattle.std.proofs.lemmas.Option.{slice_get_within}
 use Rattle.std.proofs.lemmas.Bool.{cases_order}
+use Rattle.std.specs.List.{AllZip}
 use Rattle.controller_api.specs.Reaction.{Reaction}
 use Rattle.controller_api.specs.declared.item.UpItem.{UpItem}
 use Rattle.machine_setup.specs.declared.setup.Setup.{Setup}
@@ -10,7 +11,7 @@ use Rattle.event_machine.specs.declared.legal.LogNo.{LogNo}
 use Rattle.event_machine.specs.declared.legal.LogNo.TheVariants.{NotLegal, WorkerOrder, EndWrong, OutOfMemory}
 use Rattle.event_machine.specs.declared.trace.Entry.{Entry}
 use Rattle.event_machine.specs.declared.trace.Trace.{Trace}
-use Rattle.event_machine.specs.Legal.{IsLegalIn, IsSoundTo, IsLegalRun, IsWrong, IsFirstWrong, IsWrongEntry, earlier_of, world_before}
+use Rattle.event_machine.specs.Legal.{IsLegalIn, IsSoundTo, IsLegalRun, IsWrong, IsFirstWrong, IsWrongEntry, earlier_of, world_after, world_before}
 use Rattle.controller_host.specs.Hosting.{Hosting, hosting, starting}
 use Rattle.doc_forms.specs.Texts.{IsRefused, IsText, rooted}
 use Rattle.doc_forms.specs.declared.fail.DocFail.TheVariants.{Refused}
@@ -18,8 +19,18 @@ use Rattle.log_doc.specs.declared.log.Log.{Log}
 use Rattle.log_doc.specs.Log.{log_of}
 use Rattle.causal_replay.specs.Replay.{IsReplay}
 use Rattle.causal_replay.specs.declared.replayed.Taken.{Taken}
-use Rattle.sts_cli.specs.Lines.{replay_text, refused_line, wrong_line}
-use Rattle.sts_cli.specs.Answer.{IsAnswer, IsReplayed, IsWholeReplay, IsRefusal, IsIllegal, all_kept}
+use Rattle.event_world.specs.Answers.{network_of}
+use Rattle.event_world.specs.declared.net_state.NetState.{NetState}
+use Rattle.topology.specs.declared.invariant.Invariant.{Invariant}
+use Rattle.scenario_doc.specs.declared.scenario.Scenario.{Scenario}
+use Rattle.invariant_check.specs.Verdict.{IsVerdict}
+use Rattle.invariant_check.specs.declared.walk.Verdict.{Verdict}
+use Rattle.report_text.specs.Replays.{replay_text}
+use Rattle.report_text.specs.Verdicts.{verdicts_text}
+use Rattle.sts_cli.specs.Lines.{refused_line, wrong_line}
+use Rattle.sts_cli.specs.Answer.{AreVerdicts, IsCheck, IsIllegal, IsJob, IsJudged, IsOfLog, IsRefusal, IsWholeReplay, all_kept, first_violated, judging_code}
+use Rattle.sts_cli.specs.declared.words.Job.{Job}
+use Rattle.sts_cli.specs.declared.words.Job.TheVariants.{Check, Replay}
 
 -- the bytes are one log at most
 one_log : (bytes : List ℕ) (l m : Log) → IsText log_of bytes l → IsText log_of bytes m → l ≡ m
@@ -139,9 +150,11 @@ module _ {C : Type 0} where
     one_wrong setup trace OutOfMemory other w v cause reason = absurd (cause refl)
     one_wrong setup trace why OutOfMemory w v cause reason = absurd (reason refl)
 
--- two answers with the same code and text, or none at all
-abbrev Same : ℕ → ℕ → List ℕ → List ℕ → Type 0
-Same code other text more = (code ≡ other) × (text ≡ more)
+-- ---- what is said of a log
+
+-- of a network and an invariant there is one verdict
+abbrev IsJudgedOnce : Type 0
+IsJudgedOnce = (net : NetState) (invariant : Invariant) (one other : Verdict) → IsVerdict net invariant one → IsVerdict net invariant other → one ≡ other
 
 -- entries have at most one replay for each choice of lines
 abbrev IsDetermined : Type 0
@@ -149,59 +162,75 @@ IsDetermined = (setup : Setup Hosting) (entries : List Entry) (keep : List Bool)
     → IsReplay hosting starting setup entries keep run absent world → IsReplay hosting starting setup entries keep other_run other_absent other_world
     → (run ≡ other_run) × (absent ≡ other_absent) × (world ≡ other_world)
 
+-- where each element has one partner at most, a list has one list of partners at most
+one_list : {A B : Type 0} (P : A → B → Type 0) → ((x : A) (y z : B) → P x y → P x z → y ≡ z) → (xs : List A) (ys zs : List B) → AllZip P xs ys → AllZip P xs zs → ys ≡ zs
+one_list P one [] [] [] a b = refl
+one_list P one (x ∷ xs) (y ∷ ys) (z ∷ zs) a b = ap₂ (λ v vs. v ∷ vs) (one x y z a.0 b.0) (one_list P one xs ys zs a.1 b.1)
+one_list P one [] (y ∷ ys) zs a b = absurd a
+one_list P one [] [] (z ∷ zs) a b = absurd b
+one_list P one (x ∷ xs) [] zs a b = absurd a
+one_list P one (x ∷ xs) (y ∷ ys) [] a b = absurd b
+
+-- a scenario has one list of verdicts in a world
+one_judgement : (scenario : Scenario) (world : Situation Hosting) (one other : List Verdict) → IsJudgedOnce → AreVerdicts scenario world one → AreVerdicts scenario world other → one ≡ other
+one_judgement scenario world one other once a b =
+    one_list (λ invariant verdict. IsVerdict (network_of scenario.setup.topology world) invariant verdict) (once (network_of scenario.setup.topology world)) scenario.invariants one other a b
+
+-- the verdicts have one text and one status
+one_check : (scenario : Scenario) (world : Situation Hosting) (code other : ℕ) (text more : List ℕ) → IsJudgedOnce → IsCheck scenario world code text → IsCheck scenario world other more → (code ≡ other) × (text ≡ more)
+one_check scenario world code other text more once (verdicts, are, status, is) (others, are', status', is') =
+    let same : verdicts ≡ others = one_judgement scenario world verdicts others once are are' in
+    (status ∙ ap (λ v. judging_code (first_violated v)) same ∙ sym status', is ∙ ap (λ v. verdicts_text scenario.invariants v) same ∙ sym is')
+
 -- a log has one text of its replay
-one_text : (log : Log) (text more : List ℕ) → IsDetermined → IsWholeReplay log text → IsWholeReplay log more → text ≡ more
-one_text log text more one (run, absent, world, left, is) (other_run, other_absent, other_world, right, is') =
+one_text : (log : Log) (text more : List ℕ) → IsDetermined → IsJudgedOnce → IsWholeReplay log text → IsWholeReplay log more → text ≡ more
+one_text log text more one once (run, absent, world, verdicts, left, are, is) (other_run, other_absent, other_world, others, right, are', is') =
     let same = one log.scenario.setup log.trace.entries (all_kept log) run other_run absent other_absent world other_world left right in
-    is ∙ ap₂ (λ (r : List Taken) (a : List ℕ). replay_text r a log.scenario.invariants) same.0 same.1 ∙ sym is'
+    let there : AreVerdicts log.scenario world others = subst (λ (w : Situation Hosting). AreVerdicts log.scenario w others) (sym same.2) are' in
+    let judged : verdicts ≡ others = one_judgement log.scenario world verdicts others once are there in
+    is ∙ ap (λ v. replay_text run absent (first_violated v)) judged ∙ ap₂ (λ (r : List Taken) (a : List ℕ). replay_text r a (first_violated others)) same.0 same.1 ∙ sym is'
 
-one_replay : (bytes text more : List ℕ) → IsDetermined → IsReplayed bytes text → IsReplayed bytes more → text ≡ more
-one_replay bytes text more one a b =
-    let log : b.0 ≡ a.0 = one_log bytes b.0 a.0 b.1 a.1 in
-    one_text a.0 text more one a.3 (subst (λ (l : Log). IsWholeReplay l more) log b.3)
+-- a job has one answer
+one_job : (job : Job) (log : Log) (code other : ℕ) (text more : List ℕ) → IsDetermined → IsJudgedOnce → IsJob job log code text → IsJob job log other more → (code ≡ other) × (text ≡ more)
+one_job Check log code other text more one once a b = one_check log.scenario (world_after hosting starting log.scenario.setup log.trace) code other text more once a b
+one_job Replay log code other text more one once a b = (a.0 ∙ sym b.0, one_text log text more one once a.1 b.1)
 
-one_refusal : (bytes text more : List ℕ) → IsRefusal bytes text → IsRefusal bytes more → text ≡ more
-one_refusal bytes text more a b =
-    let one = one_rule bytes a.0 b.0 a.1 b.1 a.2 b.2 in
+-- what is wrong with a log has one text
+one_illegal : (log : Log) (text more : List ℕ) → IsIllegal log text → IsIllegal log more → text ≡ more
+one_illegal log text more (why, wrong, cause, is) (other, wrong', cause', is') =
+    is ∙ ap wrong_line (one_wrong hosting starting log.scenario.setup log.trace why other wrong wrong' cause cause') ∙ sym is'
+
+-- what is said of a log is one thing
+one_saying : (job : Job) (log : Log) (code other : ℕ) (text more : List ℕ) → IsDetermined → IsJudgedOnce → IsJudged job log code text → IsJudged job log other more → (code ≡ other) × (text ≡ more)
+one_saying job log code other text more one once a b = elim a [
+  | inl x ↦ elim b [
+    | inl y ↦ one_job job log code other text more one once x.1 y.1
+    | inr y ↦ absurd (legal_or_wrong hosting starting log.scenario.setup log.trace y.1.0 x.0 y.1.1 y.1.2)
+  ]
+  | inr x ↦ elim b [
+    | inl y ↦ absurd (legal_or_wrong hosting starting log.scenario.setup log.trace x.1.0 y.0 x.1.1 x.1.2)
+    | inr y ↦ (x.0 ∙ sym y.0, one_illegal log text more x.1 y.1)
+  ]
+]
+
+-- a document is refused in one way
+one_refusal : (bytes : List ℕ) (code other : ℕ) (text more : List ℕ) → IsRefusal log_of bytes code text → IsRefusal log_of bytes other more → (code ≡ other) × (text ≡ more)
+one_refusal bytes code other text more a b =
+    let one = one_rule bytes a.1.0 b.1.0 a.1.1 b.1.1 a.1.2 b.1.2 in
     let number = one.0 in
     let path = one.1 in
-    a.3 ∙ ap (λ n. refused_line n a.1) number ∙ ap (λ p. refused_line b.0 p) path ∙ sym b.3
+    (a.0 ∙ sym b.0, a.1.3 ∙ ap (λ n. refused_line n a.1.1) number ∙ ap (λ p. refused_line b.1.0 p) path ∙ sym b.1.3)
 
-one_illegal : (bytes text more : List ℕ) → IsIllegal bytes text → IsIllegal bytes more → text ≡ more
-one_illegal bytes text more a b =
-    let log : b.0 ≡ a.0 = one_log bytes b.0 a.0 b.2 a.2 in
-    let wrong = subst (λ (l : Log). IsWrong hosting starting l.scenario.setup l.trace b.1) log b.3 in
-    a.5 ∙ ap wrong_line (one_wrong hosting starting a.0.scenario.setup a.0.trace a.1 b.1 a.3 wrong a.4 b.4) ∙ sym b.5
-
-replay_or_illegal : (bytes text more : List ℕ) → IsReplayed bytes text → IsIllegal bytes more → ⊥
-replay_or_illegal bytes text more a b =
-    let log : b.0 ≡ a.0 = one_log bytes b.0 a.0 b.2 a.1 in
-    let wrong = subst (λ (l : Log). IsWrong hosting starting l.scenario.setup l.trace b.1) log b.3 in
-    legal_or_wrong hosting starting a.0.scenario.setup a.0.trace b.1 a.2 wrong b.4
-
-pub one_answer : IsDetermined → (bytes : List ℕ) (code other : ℕ) (text more : List ℕ) → IsAnswer bytes code text → IsAnswer bytes other more → (code ≡ other) × (text ≡ more)
-one_answer determined bytes code other text more one two = elim one [
-  | inl a ↦ elim two [
-    | inl b ↦ (a.0 ∙ sym b.0, one_replay bytes text more determined a.1 b.1)
-    | inr rest ↦ elim rest [
-      | inl b ↦ absurd (log_or_refused bytes a.1.0 b.1.0 b.1.1 a.1.1 b.1.2)
-      | inr b ↦ absurd (replay_or_illegal bytes text more a.1 b.1)
-    ]
+pub one_answer : IsDetermined → IsJudgedOnce → (job : Job) (bytes : List ℕ) (code other : ℕ) (text more : List ℕ) → IsOfLog job bytes code text → IsOfLog job bytes other more → (code ≡ other) × (text ≡ more)
+one_answer one once job bytes code other text more a b = elim a [
+  | inl x ↦ elim b [
+    | inl y ↦
+        let log : y.0 ≡ x.0 = one_log bytes y.0 x.0 y.1 x.1 in
+        one_saying job x.0 code other text more one once x.2 (subst (λ (l : Log). IsJudged job l other more) log y.2)
+    | inr y ↦ absurd (log_or_refused bytes x.0 y.1.0 y.1.1 x.1 y.1.2)
   ]
-  | inr others ↦ elim others [
-    | inl a ↦ elim two [
-      | inl b ↦ absurd (log_or_refused bytes b.1.0 a.1.0 a.1.1 b.1.1 a.1.2)
-      | inr rest ↦ elim rest [
-        | inl b ↦ (a.0 ∙ sym b.0, one_refusal bytes text more a.1 b.1)
-        | inr b ↦ absurd (log_or_refused bytes b.1.0 a.1.0 a.1.1 b.1.2 a.1.2)
-      ]
-    ]
-    | inr a ↦ elim two [
-      | inl b ↦ absurd (replay_or_illegal bytes more text b.1 a.1)
-      | inr rest ↦ elim rest [
-        | inl b ↦ absurd (log_or_refused bytes a.1.0 b.1.0 b.1.1 a.1.2 b.1.2)
-        | inr b ↦ (a.0 ∙ sym b.0, one_illegal bytes text more a.1 b.1)
-      ]
-    ]
+  | inr x ↦ elim b [
+    | inl y ↦ absurd (log_or_refused bytes y.0 x.1.0 x.1.1 y.1 x.1.2)
+    | inr y ↦ one_refusal bytes code other text more x y
   ]
 ]

@@ -1,74 +1,128 @@
--- What the program answers, as a relation of the words and the bytes read.
-use Rattle.std.specs.Prelude.{◌≡◌, ◌≢◌, ℕ, ◌<◌, ◌≤◌, ◌⊎◌, List, [], ◌∷◌, length, take, map, replicate, codes, string_bytes, String, Bool, true, Option, IfSome}
-use Rattle.std.specs.declared.alloc.Global.{Global}
-use Rattle.std.specs.Io.KnownBytes.{IsAtEnd, Appends}
+-- What the program answers to the bytes that it reads.
+use Rattle.std.specs.Prelude.{◌≡◌, ◌≢◌, ℕ, ◌⊎◌, List, ◌++◌, length, position, replicate, Bool, true, false, Option, Some, None}
+use Rattle.std.specs.List.{AllZip}
+use Rattle.serde_json.specs.Data.{Data}
+use Rattle.machine_setup.specs.declared.setup.Setup.{Setup}
+use Rattle.event_world.specs.Answers.{network_of}
 use Rattle.event_world.specs.World.{Situation}
 use Rattle.event_machine.specs.declared.legal.LogNo.{LogNo}
 use Rattle.event_machine.specs.declared.legal.LogNo.TheVariants.{OutOfMemory}
-use Rattle.event_machine.specs.Legal.{IsLegalRun, IsWrong}
+use Rattle.event_machine.specs.declared.trace.Entry.{Entry}
+use Rattle.event_machine.specs.Legal.{IsLegalRun, IsWrong, world_after}
+use Rattle.event_machine.specs.Rule.{IsOneThreadRun}
 use Rattle.controller_host.specs.Hosting.{Hosting, hosting, starting}
+use Rattle.doc_forms.specs.Reading.{Reading}
 use Rattle.doc_forms.specs.Texts.{IsRefused, IsText}
 use Rattle.doc_forms.specs.declared.fail.DocFail.TheVariants.{Refused}
+use Rattle.scenario_doc.specs.Scenario.{scenario_of}
+use Rattle.scenario_doc.specs.declared.scenario.Scenario.{Scenario}
 use Rattle.log_doc.specs.declared.log.Log.{Log}
 use Rattle.log_doc.specs.Log.{log_of}
+use Rattle.log_doc.specs.Written.{log_text}
 use Rattle.causal_replay.specs.Replay.{IsReplay}
 use Rattle.causal_replay.specs.declared.replayed.Taken.{Taken}
-use Rattle.sts_cli.specs.Lines.{replay_text, refused_line, wrong_line}
+use Rattle.invariant_check.specs.Verdict.{IsVerdict}
+use Rattle.invariant_check.specs.declared.walk.Verdict.{Verdict}
+use Rattle.invariant_check.specs.declared.walk.Verdict.TheVariants.{Holds, Violated}
+use Rattle.report_text.specs.Events.{line_feed}
+use Rattle.report_text.specs.Replays.{replay_text}
+use Rattle.report_text.specs.Verdicts.{verdicts_text}
+use Rattle.run_recorder.specs.Answers.{AreDealt, RestComesLast}
+use Rattle.run_recorder.specs.Rest.{RestIsRuled}
+use Rattle.sts_cli.specs.Lines.{refused_line, wrong_line}
+use Rattle.sts_cli.specs.declared.words.Form.{Form}
+use Rattle.sts_cli.specs.declared.words.Form.TheVariants.{Record, OfLog}
+use Rattle.sts_cli.specs.declared.words.Job.{Job}
+use Rattle.sts_cli.specs.declared.words.Job.TheVariants.{Check, Replay}
 
--- the words are the one form that is built: `replay`
-abbrev pub IsForm : List (String Global) → Type 0
-IsForm words = map string_bytes words ≡ codes "replay" ∷ []
+-- ---- documents that are refused
+
+-- the bytes are no document of the form, and the text says which rule is broken, and where
+abbrev pub IsRefusal : {A : Type 0} → (Data → Reading A) → List ℕ → ℕ → List ℕ → Type 0
+IsRefusal form bytes code text = (code ≡ 3) × ((number : ℕ) × (path : List ℕ) × IsRefused form bytes (Refused number path) × (text ≡ refused_line number path))
+
+-- ---- verdicts
+
+-- these are the verdicts on the scenario's invariants in a world, in their order
+abbrev pub AreVerdicts : Scenario → Situation Hosting → List Verdict → Type 0
+AreVerdicts scenario world verdicts = AllZip (λ invariant verdict. IsVerdict (network_of scenario.setup.topology world) invariant verdict) scenario.invariants verdicts
+
+-- whether a verdict is that an invariant is violated
+abbrev pub is_violated : Verdict → Bool
+is_violated Holds = false
+is_violated (Violated host header walk) = true
+
+-- the place of the first invariant that is violated
+abbrev pub first_violated : List Verdict → Option ℕ
+first_violated verdicts = position is_violated verdicts
+
+-- the status of a job that judges: 1 where an invariant is violated, else 0
+abbrev pub judging_code : Option ℕ → ℕ
+judging_code None = 0
+judging_code (Some place) = 1
+
+-- the text is that of the verdicts in a world, and the status tells whether one is violated
+abbrev pub IsCheck : Scenario → Situation Hosting → ℕ → List ℕ → Type 0
+IsCheck scenario world code text = (verdicts : List Verdict) × AreVerdicts scenario world verdicts
+    × (code ≡ judging_code (first_violated verdicts)) × (text ≡ verdicts_text scenario.invariants verdicts)
+
+-- ---- replays
 
 -- every line of the log's script is kept
 abbrev pub all_kept : Log → List Bool
 all_kept log = replicate (length log.scenario.setup.script) true
 
--- the text is that of the log's replay with all lines of its script
+-- the text is that of the log's replay with all lines of its script, and of the first invariant that is violated at its end
 abbrev pub IsWholeReplay : Log → List ℕ → Type 0
-IsWholeReplay log text = (run : List Taken) × (absent : List ℕ) × (world : Situation Hosting)
-    × IsReplay hosting starting log.scenario.setup log.trace.entries (all_kept log) run absent world × (text ≡ replay_text run absent log.scenario.invariants)
+IsWholeReplay log text = (run : List Taken) × (absent : List ℕ) × (world : Situation Hosting) × (verdicts : List Verdict)
+    × IsReplay hosting starting log.scenario.setup log.trace.entries (all_kept log) run absent world
+    × AreVerdicts log.scenario world verdicts × (text ≡ replay_text run absent (first_violated verdicts))
 
--- the bytes are a log that is a legal run of its scenario, and the text is that of its replay with all lines of its script
-abbrev pub IsReplayed : List ℕ → List ℕ → Type 0
-IsReplayed bytes text = (log : Log) × IsText log_of bytes log × IsLegalRun hosting starting log.scenario.setup log.trace × IsWholeReplay log text
+-- ---- logs
 
--- the bytes are no document that is read, and the text says which rule is broken, and where
-abbrev pub IsRefusal : List ℕ → List ℕ → Type 0
-IsRefusal bytes text = (number : ℕ) × (path : List ℕ) × IsRefused log_of bytes (Refused number path) × (text ≡ refused_line number path)
+-- what is said of a log that is a legal run
+abbrev pub IsJob : Job → Log → ℕ → List ℕ → Type 0
+IsJob Check log code text = IsCheck log.scenario (world_after hosting starting log.scenario.setup log.trace) code text
+IsJob Replay log code text = (code ≡ 0) × IsWholeReplay log text
 
--- the bytes are a log that is no legal run of its scenario, and the text says what is wrong
-abbrev pub IsIllegal : List ℕ → List ℕ → Type 0
-IsIllegal bytes text = (log : Log) × (why : LogNo) × IsText log_of bytes log × IsWrong hosting starting log.scenario.setup log.trace why
-    × (why ≢ OutOfMemory) × (text ≡ wrong_line why)
+-- the log is no legal run of its scenario, and the text says what is wrong
+abbrev pub IsIllegal : Log → List ℕ → Type 0
+IsIllegal log text = (why : LogNo) × IsWrong hosting starting log.scenario.setup log.trace why × (why ≢ OutOfMemory) × (text ≡ wrong_line why)
 
--- what is answered to the bytes: status 0 with the replay, 3 with the refusal, 4 with what is not legal
-abbrev pub IsAnswer : List ℕ → ℕ → List ℕ → Type 0
-IsAnswer bytes code text = ((code ≡ 0) × IsReplayed bytes text) ⊎ (((code ≡ 3) × IsRefusal bytes text) ⊎ ((code ≡ 4) × IsIllegal bytes text))
+-- what is said of a log: what is asked for where it is a legal run, else what is wrong
+abbrev pub IsJudged : Job → Log → ℕ → List ℕ → Type 0
+IsJudged job log code text = (IsLegalRun hosting starting log.scenario.setup log.trace × IsJob job log code text)
+    ⊎ ((code ≡ 4) × IsIllegal log text)
 
--- The source was read to its end, and these were the bytes: where it tells its bytes, all that were left. They are not
--- too many.
-abbrev pub IsInput : Option (List ℕ) → Option (List ℕ) → List ℕ → Type 0
-IsInput old new bytes = IfSome old (λ all. bytes ≡ all) × IsAtEnd new × (length bytes ≤ 16777216)
+-- what is answered to bytes where a log is asked for
+abbrev pub IsOfLog : Job → List ℕ → ℕ → List ℕ → Type 0
+IsOfLog job bytes code text = ((log : Log) × IsText log_of bytes log × IsJudged job log code text) ⊎ IsRefusal log_of bytes code text
 
--- The source was read to its end, and of the text that answers the bytes a part was taken, which may be empty and is not the whole.
-abbrev pub IsCutOff : Option (List ℕ) → Option (List ℕ) → Option (List ℕ) → Option (List ℕ) → Type 0
-IsCutOff left_old left_new taken_old taken_new = (bytes : List ℕ) × (code : ℕ) × (text : List ℕ) × (gone : ℕ)
-    × IsInput left_old left_new bytes × IsAnswer bytes code text × (gone < length text) × Appends taken_old taken_new (take gone text)
+-- ---- recordings
 
--- the source was read to its end, and the text that answers the bytes was taken whole
-abbrev pub IsAnswered : Option (List ℕ) → Option (List ℕ) → Option (List ℕ) → Option (List ℕ) → ℕ → Type 0
-IsAnswered left_old left_new taken_old taken_new code = (bytes : List ℕ) × (text : List ℕ)
-    × IsInput left_old left_new bytes × IsAnswer bytes code text × Appends taken_old taken_new text
+-- the text is the line of a log: it ends with a line feed, and what stands before is read as that log
+abbrev pub IsLogText : Log → List ℕ → Type 0
+IsLogText log text = (text ≡ log_text log ++ line_feed) × IsText log_of (log_text log) log
 
--- a log is judged: its replay where it is a legal run, else what is wrong
-abbrev pub IsJudged : Log → ℕ → List ℕ → Type 0
-IsJudged log code text = ((code ≡ 0) × IsLegalRun hosting starting log.scenario.setup log.trace × IsWholeReplay log text)
-    ⊎ ((code ≡ 4) × ((why : LogNo) × IsWrong hosting starting log.scenario.setup log.trace why × (why ≢ OutOfMemory) × (text ≡ wrong_line why)))
+module _ (tells : Setup Hosting → List Entry → Type 0) where
+  -- The log is that of a run of the scenario which its workers recorded: a complete legal run in worker order; each entry is of the
+  -- worker that has its actor, or of worker 0, whose entries come last and are what one thread does next. The gates tell of it. Where
+  -- there is no patience it is the run of one thread.
+  pub record IsRecorded (scenario : Scenario) (log : Log) : Type 0 where
+    pub of : log.scenario ≡ scenario
+    pub legal : IsLegalRun hosting starting scenario.setup log.trace
+    pub dealt : AreDealt scenario.setup scenario.setup.limits.workers log.trace.entries
+    pub last : RestComesLast log.trace.entries
+    pub ruled : RestIsRuled hosting starting scenario.setup log.trace.entries
+    pub passes : tells scenario.setup log.trace.entries
+    pub alone : scenario.setup.limits.patience ≡ 0 → IsOneThreadRun hosting starting scenario.setup log.trace
 
--- the statuses whose text is written whole
-abbrev pub IsTold : ℕ → Type 0
-IsTold code = (code ≡ 0) ⊎ ((code ≡ 3) ⊎ (code ≡ 4))
+  -- what is answered to bytes where a scenario is asked for: the log of a run of it
+  abbrev pub IsOfScenario : List ℕ → ℕ → List ℕ → Type 0
+  IsOfScenario bytes code text = ((scenario : Scenario) × (log : Log) × IsText scenario_of bytes scenario × IsRecorded scenario log × IsLogText log text × (code ≡ 0))
+      ⊎ IsRefusal scenario_of bytes code text
 
--- the statuses that write nothing
-abbrev pub IsSilent : ℕ → Type 0
-IsSilent code = (code ≡ 2) ⊎ ((code ≡ 5) ⊎ ((code ≡ 7) ⊎ (code ≡ 8)))
+  -- what is answered to bytes
+  abbrev pub IsAnswer : Form → List ℕ → ℕ → List ℕ → Type 0
+  IsAnswer Record bytes code text = IsOfScenario bytes code text
+  IsAnswer (OfLog job) bytes code text = IsOfLog job bytes code text

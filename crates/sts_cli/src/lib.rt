@@ -2,13 +2,19 @@
 #![tactic(auto)]
 
 mod answer;
+mod gates;
+mod jobs;
 pub mod laws;
 mod lines;
+mod recording;
 mod status;
 mod top;
+mod words;
 
+pub use gates::open_gates;
 pub use status::Status;
 pub use top::sts;
+pub use words::{Form, Job};
 
 #[cfg(test)]
 mod tests;

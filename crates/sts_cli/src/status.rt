@@ -9,6 +9,8 @@ pub struct Status {
 impl Status {
     /// The job is done, and its output written.
     pub const DONE: Status = Status { code: 0 };
+    /// The job is done, and its output written: an invariant is violated.
+    pub const VIOLATED: Status = Status { code: 1 };
     /// The words are no form of the program's. Nothing is written.
     pub const WORDS: Status = Status { code: 2 };
     /// The document is refused, and the output says why.

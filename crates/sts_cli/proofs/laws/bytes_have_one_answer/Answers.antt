@@ -1,5 +1,0 @@
-use Rattle.sts_cli.proofs.Unique.{one_answer}
-use Rattle.sts_cli.proofs.laws.bytes_have_one_answer.Goals as goal
-
-pub returns : goal.returns
-returns c = one_answer c.there_is_one_replay.ensures
