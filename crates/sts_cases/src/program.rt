@@ -1,0 +1,66 @@
+//! The program on a document, in memory.
+use crate::meeting::{Meeting, meetings};
+use log_doc::read_log;
+use run_recorder::Gate;
+use std::alloc::{AllocError, Global};
+use std::fs::Files;
+use std::io::Print;
+use std::thread::Threads;
+use std::{fs, io};
+use sts_cli::{Status, open_gates, sts};
+use sts_io::{MemSink, MemSource};
+
+/// Prints what the program writes where all gates are open, and its status.
+pub(crate) fn print_open<R: Files + AllocGlobal + Print + Threads + Sync>(
+    rt: &R,
+    word: &str,
+    file: &str,
+) -> io::Result<()> {
+    let document = fs::read(rt, file)?;
+    let (status, text) = run(rt, word, document, &mut open_gates())?;
+    rt.write_all(text.as_slice())?;
+    println!(rt; "status {}", status.code)
+}
+
+/// Prints whether the workers 1 and 2 met, whether one of them recorded, and the status of the program.
+pub(crate) fn print_met<R: Files + AllocGlobal + Print + Threads + Sync>(
+    rt: &R,
+    word: &str,
+    file: &str,
+) -> io::Result<()> {
+    let document = fs::read(rt, file)?;
+    let mut gates = meetings(rt.alloc())?;
+    let (status, text) = run(rt, word, document, &mut gates)?;
+    let met = gates.iter().filter(|gate| gate.has_met()).count();
+    let recorded = is_recorded(rt.alloc(), text.as_slice());
+    println!(rt; "met {met}, recorded {recorded}, status {}", status.code)
+}
+
+// Whether the bytes are a log in which worker 1 or worker 2 has an entry.
+fn is_recorded(alloc: Global, bytes: &[u8]) -> bool {
+    let Ok(log) = read_log(alloc, bytes) else {
+        return false;
+    };
+    for entry in log.trace.entries.iter() {
+        if entry.worker == 1 || entry.worker == 2 {
+            return true;
+        }
+    }
+    false
+}
+
+// The status of the program with one word, and what it writes.
+fn run<R: AllocGlobal + Threads + Sync, G: Gate>(
+    rt: &R,
+    word: &str,
+    document: Vec<u8>,
+    gates: &mut [G; 8],
+) -> Result<(Status, Vec<u8>), AllocError> {
+    let alloc = rt.alloc();
+    let mut words = Vec::new(alloc);
+    words.push(word.to_string(alloc)?)?;
+    let mut source = MemSource::new(document, 1 << 16, Vec::new(alloc));
+    let mut sink = MemSink::new(alloc, 1 << 16, 1 << 16, Vec::new(alloc))?;
+    let status = sts(rt, alloc, words.as_slice(), &mut source, &mut sink, gates);
+    Ok((status, sink.taken().to_vec(alloc)?))
+}
