@@ -1,12 +1,14 @@
 //! Times layers of the workspace, one by one: `sts_bench LAYER COUNT`, where LAYER is `messages`, `tables`, `turn_book`,
-//! `world` or `all`. Figures go to standard error. Messages go by whole hundreds.
+//! `world`, `replays`, `verdicts` or `all`. Figures go to standard error. Messages go by whole hundreds.
 #![tactic(auto)]
 
 mod figure;
 mod messages;
 mod relay;
+mod replays;
 mod tables;
 mod turns;
+mod verdicts;
 mod worlds;
 
 use anyhow::{Result, bail};
@@ -104,10 +106,53 @@ fn time_worlds<R: AllocGlobal + Clock + Eprint + Print>(rt: &R, count: u64) -> R
     Ok(())
 }
 
+fn time_replays<R: AllocGlobal + Clock + Eprint + Print>(rt: &R, count: u64) -> Result<()> {
+    let most = u32::try_from(count)?.clamp(1, worlds::MOST_EVENTS);
+    for events in [most.div_ceil(4), most] {
+        let figures = replays::timed(rt, events)?;
+        for (kept, replayed) in [
+            ("all", figures.all),
+            ("half", figures.half),
+            ("none", figures.none),
+        ] {
+            let steps = replayed.steps;
+            let tenths = tenths_each(replayed.time, u64::from(events));
+            eprintln!(rt;
+                "replays: {events} entries, {kept} of the inputs: {}.{} ns an entry",
+                tenths / 10,
+                tenths % 10
+            )?;
+            println!(rt;
+                "replays: {events} entries, {kept} of the inputs: {steps} steps, {} entries absent",
+                replayed.absent
+            )?;
+        }
+    }
+    Ok(())
+}
+
+fn time_verdicts<R: AllocGlobal + Clock + Eprint + Print>(rt: &R) -> Result<()> {
+    for (network, judged) in [
+        (
+            "64 switches with 125 routes each",
+            verdicts::timed_routes(rt)?,
+        ),
+        (
+            "8 switches with 64 overlapping entries each",
+            verdicts::timed_overlapping(rt)?,
+        ),
+    ] {
+        let micros = judged.time.as_micros();
+        eprintln!(rt; "verdicts: {network}: {micros} us")?;
+        println!(rt; "verdicts: {network}: {} of 3 violated", judged.violated)?;
+    }
+    Ok(())
+}
+
 fn main(rt: HostRuntime) -> Result<()> {
     let mut words = env::args(&rt)?.skip(1);
     let (Some(layer), Some(count)) = (words.next(), words.next()) else {
-        bail!("usage: sts_bench messages|tables|turn_book|world|all COUNT");
+        bail!("usage: sts_bench messages|tables|turn_book|world|replays|verdicts|all COUNT");
     };
     let count = count.parse::<u64>()?;
     match layer.as_str() {
@@ -115,12 +160,16 @@ fn main(rt: HostRuntime) -> Result<()> {
         "tables" => time_tables(&rt, count),
         "turn_book" => time_turns(&rt, count),
         "world" => time_worlds(&rt, count),
+        "replays" => time_replays(&rt, count),
+        "verdicts" => time_verdicts(&rt),
         "all" => {
             time_messages(&rt, count)?;
             time_tables(&rt, count)?;
             time_turns(&rt, count)?;
-            time_worlds(&rt, count)
+            time_worlds(&rt, count)?;
+            time_replays(&rt, count)?;
+            time_verdicts(&rt)
         }
-        _ => bail!("usage: sts_bench messages|tables|turn_book|world|all COUNT"),
+        _ => bail!("usage: sts_bench messages|tables|turn_book|world|replays|verdicts|all COUNT"),
     }
 }

@@ -38,8 +38,12 @@ pub struct Figures {
     pub none: Figure,
 }
 
-/// Adds the entry for all packets to an address.
-fn mods_for(alloc: Global, address: u64) -> std::result::Result<FlowMod, AllocError>
+/// Adds the entry that sends all packets to an address out of a port.
+pub(crate) fn mods_for(
+    alloc: Global,
+    address: u64,
+    port: u16,
+) -> std::result::Result<FlowMod, AllocError>
     requires { address < 2 ^ 48 }
     ensures valid { IfOk result (λ mods. IsValidFlowMod mods) }
     ensures len { IfOk result (λ mods. actions_len mods.actions ≡ 8) }
@@ -48,7 +52,7 @@ fn mods_for(alloc: Global, address: u64) -> std::result::Result<FlowMod, AllocEr
         dl_dst: Some(address),
         ..Match::any()
     };
-    let actions = one_action(alloc, Action::output(OUT_PORT))?;
+    let actions = one_action(alloc, Action::output(port))?;
     Ok(FlowMod::add(matches, PRIORITY, actions))
 }
 
@@ -56,7 +60,7 @@ fn mods_for(alloc: Global, address: u64) -> std::result::Result<FlowMod, AllocEr
 fn full_table(alloc: Global) -> std::result::Result<Table, TableNo> {
     let mut table = Table::new(alloc);
     for place in 0..TABLE_CAPACITY as u64 {
-        table.command(Command::Add, &mods_for(alloc, place + 1)?, 0)?;
+        table.command(Command::Add, &mods_for(alloc, place + 1, OUT_PORT)?, 0)?;
     }
     Ok(table)
 }
@@ -65,7 +69,7 @@ fn full_table(alloc: Global) -> std::result::Result<Table, TableNo> {
 fn small_switch(alloc: Global) -> std::result::Result<Switch, AllocError> {
     let mut switch = Switch::fresh(alloc, 0, 2);
     for place in 0..FEW {
-        let mods = mods_for(alloc, place + 1)?;
+        let mods = mods_for(alloc, place + 1, OUT_PORT)?;
         switch.handle(&Message::flow_mod(1, mods))?;
     }
     Ok(switch)

@@ -16,13 +16,13 @@ use std::time::{Clock, Instant};
 use topology::{Links, Topology};
 
 /// The port from which a switch is linked to the next one.
-const ONWARD: u16 = 1;
+pub(crate) const ONWARD: u16 = 1;
 
 /// The port at which the link from the switch before ends.
-const BACK: u16 = 2;
+pub(crate) const BACK: u16 = 2;
 
 /// The port of the first switch at which the host is.
-const HOST_PORT: u16 = 3;
+pub(crate) const HOST_PORT: u16 = 3;
 
 /// How large a network is.
 #[derive(Clone, Copy, Debug)]
@@ -54,12 +54,8 @@ pub struct Figures {
     pub inputs: u32,
 }
 
-const LIMITS: Limits = Limits {
-    max_events: 16_384,
-    budget: 0,
-    workers: 1,
-    patience: 0,
-};
+/// The most events that a run may have.
+pub(crate) const MOST_EVENTS: u32 = 16_384;
 
 /// What the host sends. No switch has an entry for it.
 const PACKET: Packet = Packet {
@@ -97,13 +93,31 @@ fn no_presets(alloc: Global, switches: u16) -> std::result::Result<Presets, Allo
     Ok(presets)
 }
 
-/// A ring under one controller, with a host at its first switch that sends one packet.
-fn ring(alloc: Global, size: Size) -> std::result::Result<Setup<Relay>, AllocError> {
+/// Each switch is linked to the next one.
+pub(crate) fn links_of_line(
+    alloc: Global,
+    switches: u16,
+) -> std::result::Result<Links, AllocError> {
+    let mut links = Listed::new(alloc);
+    for s in 1..switches {
+        links.push((s - 1, ONWARD, s, BACK))?;
+    }
+    Ok(links)
+}
+
+/// A network under one controller, with a host at its first switch that sends so many packets.
+pub(crate) fn relayed(
+    alloc: Global,
+    size: Size,
+    links: Links,
+    packets: usize,
+    max_events: u32,
+) -> std::result::Result<Setup<Relay>, AllocError> {
     let Size { switches, ports } = size;
     let topology = Topology {
         ports: Listed::of(vec![in alloc; ports; usize::from(switches)]?),
         owner: Listed::of(vec![in alloc; Some(0u16); usize::from(switches)]?),
-        links: links_of_ring(alloc, switches)?,
+        links,
         hosts: Listed::of(vec![in alloc; (0u16, HOST_PORT, 1u64)]?),
     };
     let relay = Relay {
@@ -121,8 +135,13 @@ fn ring(alloc: Global, size: Size) -> std::result::Result<Setup<Relay>, AllocErr
         topology,
         presets: no_presets(alloc, switches)?,
         controllers: Listed::of(vec![in alloc; relay]?),
-        script: Listed::of(vec![in alloc; line]?),
-        limits: LIMITS,
+        script: Listed::of(vec![in alloc; line; packets]?),
+        limits: Limits {
+            max_events,
+            budget: 0,
+            workers: 1,
+            patience: 0,
+        },
     })
 }
 
@@ -208,7 +227,7 @@ fn timed_quarters<R: Clock>(
 }
 
 /// The world with which a run of the setup starts.
-fn started(alloc: Global, setup: &Setup<Relay>) -> Result<World<Relay>>
+pub(crate) fn started(alloc: Global, setup: &Setup<Relay>) -> Result<World<Relay>>
     ensures setup { IfOk result (λ world. IsValidSetup setup.now) }
     ensures fits { IfOk result (λ world. Fits (λ relay. 0) setup.now world) }
 {
@@ -220,7 +239,8 @@ fn started(alloc: Global, setup: &Setup<Relay>) -> Result<World<Relay>>
 
 /// Times the first and the last of the four quarters of a run on a network of this size.
 pub fn timed<R: Clock + AllocGlobal>(rt: &R, size: Size, quarter: u64) -> Result<Figures> {
-    let setup = ring(rt.alloc(), size)?;
+    let links = links_of_ring(rt.alloc(), size.switches)?;
+    let setup = relayed(rt.alloc(), size, links, 1, MOST_EVENTS)?;
     let mut world = started(rt.alloc(), &setup)?;
     let (first, last) = timed_quarters(rt, &mut world, &setup, quarter)?;
     Ok(Figures {
