@@ -6,13 +6,12 @@ away. PROGRAM, else what YARDSTICK names, is another program of the same words t
 """
 import json
 import os
-import subprocess
 import sys
 import tempfile
-import time
 from collections import deque
 
-HOME = os.path.dirname(os.path.dirname(os.path.abspath(__file__)))
+from beside import PROGRAM, build, measured, other_program
+
 MOST = 16_777_216
 JSON_LOAD = [sys.executable, "-c", "import json,sys; json.load(sys.stdin)"]
 
@@ -98,30 +97,10 @@ def documents():
     yield "small objects", list_of('{"a":1}')
 
 
-def measure(path, command):
-    """Prints status, seconds and peak memory in MiB of a command on a file."""
-    with open(path, "rb") as source:
-        start = time.monotonic()
-        child = subprocess.Popen(command, stdin=source, stdout=subprocess.DEVNULL, stderr=subprocess.DEVNULL)
-        _, status, usage = os.wait4(child.pid, 0)
-        seconds = time.monotonic() - start
-    child.returncode = os.waitstatus_to_exitcode(status)
-    print(child.returncode, seconds, usage.ru_maxrss / 1024)
-
-
-def measured(command, path):
-    """The same, measured from a small process: a child's peak counts what its parent held when it was started."""
-    out = subprocess.run([sys.executable, "-S", os.path.abspath(__file__), "--measure", path, *command],
-                         capture_output=True, text=True, check=True).stdout.split()
-    return int(out[0]), float(out[1]), float(out[2])
-
-
 def main():
-    program = os.path.join(HOME, "sts")
-    with open(os.path.join(HOME, "examples", "one_packet_lost.log.json"), "rb") as log:
-        subprocess.run([program, "replay"], stdin=log, stdout=subprocess.DEVNULL, check=True)
-    commands = {"sts": [os.path.join(HOME, "crates", "sts", "out", "sts"), "replay"], "json": JSON_LOAD}
-    beside = sys.argv[2] if len(sys.argv) > 2 else os.environ.get("YARDSTICK")
+    build()
+    commands = {"sts": [PROGRAM, "replay"], "json": JSON_LOAD}
+    beside = other_program(2)
     if beside:
         commands["other"] = [beside, "replay"]
 
@@ -135,12 +114,9 @@ def main():
             with open(path, "w", encoding="ascii") as file:
                 file.write(text)
             runs = [measured(command, path) for command in commands.values()]
-            cells = [f"{seconds:9.3f} {memory:9.1f}" for _, seconds, memory in runs]
-            print(f"{name:18} {len(text):10} {runs[0][0]:6}", *cells, flush=True)
+            cells = [f"{run.wall:9.3f} {run.memory:9.1f}" for run in runs]
+            print(f"{name:18} {len(text):10} {runs[0].status:6}", *cells, flush=True)
 
 
 if __name__ == "__main__":
-    if sys.argv[1:2] == ["--measure"]:
-        measure(sys.argv[2], sys.argv[3:])
-    else:
-        main()
+    main()
