@@ -7,3 +7,4 @@ pub mod Classes
 pub mod Counts
 pub mod Rewrites
 pub mod Sizes
+mod Firsts

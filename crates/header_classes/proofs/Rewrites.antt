@@ -1,5 +1,5 @@
 -- What sets make of headers, one field at a time.
-use Rattle.std.proofs.Common.{◌≡◌, ◌≢◌, ◌∙◌, ◌<◌, ◌&&◌, ◌^◌, ◌↔◌, ℕ, zero, suc, Bool, false, IsTrue, List, [], ◌∷◌, length, get_or, take, set, slice_get, Option, Some, None, unwrap_or, nat_eq, inl, inr, refl, sym, ap, subst, lit<, arith}
+use Rattle.std.proofs.Common.{◌≡◌, ◌≢◌, ◌∙◌, ◌<◌, ◌&&◌, ◌^◌, ◌↔◌, ℕ, zero, suc, Bool, true, false, IsTrue, List, [], ◌∷◌, length, get_or, take, set, slice_get, Option, Some, None, unwrap_or, nat_eq, inl, inr, refl, sym, ap, subst, lit<, arith}
 use Rattle.std.proofs.Math.Bool.{and_assoc}
 use Rattle.std.proofs.lemmas.Bool.{and_from, and_parts, both_ways, cases_lt, eq-eqb, eqb-true}
 use Rattle.std.proofs.lemmas.List.{take_all}
@@ -12,7 +12,7 @@ use Rattle.header_classes.specs.declared.rewrite.Rewrite.{Rewrite}
 use Rattle.header_classes.specs.Interval.{within}
 use Rattle.header_classes.specs.Cell.{each_within, fields, in_cell, widths}
 use Rattle.header_classes.specs.Rewrite.{IsValidRewrite, numbers, rewritten}
-use Rattle.header_classes.proofs.Boxes.{each_within-more, outside}
+use Rattle.header_classes.proofs.Boxes.{each_within-more, inside_at, outside}
 use Rattle.header_classes.proofs.Cuts.{field_fits}
 use Rattle.header_classes.proofs.Headers.{and-true}
 
@@ -191,3 +191,13 @@ same_all one two part h valid long same = (
   λ inside. one_header (rewritten one h) (rewritten two h) ((same h valid).0 (all_fields part h long ∙ inside)),
   λ is. sym (all_fields part h long) ∙ (same h valid).1 (λ k below. ap (λ (g : Header). get_or (fields g) k 0) is),
 )
+
+-- ---- what the sets make of a cell
+
+-- so far a header of the cell is in the box of the fields so far after the sets
+pub made_more : (sets : Rewrite) (cell made : List Interval) (h : Header) (at : ℕ) (old new : Interval) → slice_get cell at ≡ Some old → at < 11 → length made ≡ 11
+    → in_cell cell h ≡ true → each_within (take at made) (fields (rewritten sets h)) ≡ true
+    → ((x : ℕ) → within old x ≡ true → within new (unwrap_or (get_or (numbers sets) at None) x) ≡ true) → each_within (take (suc at) (set made at new)) (fields (rewritten sets h)) ≡ true
+made_more sets cell made h at old new here fits long inside so_far is =
+    each_within-put made (fields (rewritten sets h)) at new (omega arith) (field_fits (rewritten sets h) at fits)
+    ∙ and_from _ _ so_far (ap (within new) (rewritten_at sets h at fits) ∙ is (get_or (fields h) at 0) (inside_at cell (fields h) at old here (field_fits h at fits) inside))

@@ -3,3 +3,4 @@ pub mod Interval
 pub mod Order
 pub mod Rewrite
 pub mod Size
+pub mod Trials

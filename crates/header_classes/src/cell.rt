@@ -71,7 +71,7 @@ impl Cell {
     }
 
     /// The headers that a match takes where it takes the port.
-    fn taken(matches: &Match) -> Cell
+    pub(crate) fn taken(matches: &Match) -> Cell
         requires { IsValidMatch matches.now }
         ensures { (port : ℕ) (h : Header) → IsValidHeader h
             → takes matches.now port h ≡ (takes_by nat_eq matches.now.in_port port && in_cell result h) }

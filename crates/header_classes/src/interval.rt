@@ -90,6 +90,13 @@ impl Interval {
         (low <= high).then_some(Interval { low, high })
     }
 
+    /// Whether no number is within both intervals.
+    pub(crate) fn is_apart(&self, other: &Interval) -> bool
+        ensures { IsTrue result → (x : ℕ) → (within self.now x && within other.now x) ≡ false }
+    {
+        self.high < other.low || other.high < self.low
+    }
+
     /// The numbers of the interval below a number.
     pub(crate) fn below(&self, limit: u64) -> Option<Interval>
         requires { self.now.low ≤ self.now.high }
@@ -154,6 +161,23 @@ impl Interval {
         match number {
             None => Some(*self),
             Some(number) => self.has(number).then_some(Interval::of_number(bits, None)),
+        }
+    }
+
+    /// The numbers of the interval, after a number was put in the place of each, where it is given.
+    pub(crate) fn after(&self, bits: u32, number: Option<u64>) -> Interval
+        requires width { bits ≤ 48 }
+        requires valid { IsInterval bits self.now }
+        requires number { IsValidNumber bits number }
+        ensures valid { IsInterval bits result }
+        ensures after { (x : ℕ) → IsTrue (within self.now x) → IsTrue (within result (unwrap_or number x)) }
+    {
+        match number {
+            None => *self,
+            Some(number) => Interval {
+                low: number,
+                high: number,
+            },
         }
     }
 

@@ -3,17 +3,20 @@
 
 mod cell;
 mod cutting;
+mod fields;
 mod interval;
 pub mod laws;
 mod order;
 pub mod partition;
 mod rewrite;
 mod settle;
+mod trials;
 
 pub use cell::{Cell, Cells, Classes};
 pub use cutting::cut;
 pub use interval::Interval;
 pub use rewrite::Rewrite;
+pub use trials::Trials;
 
 #[cfg(test)]
 mod tests;

@@ -115,6 +115,21 @@ impl Rewrite {
         Some(part)
     }
 
+    /// A cell with all headers that the sets make of those of another one.
+    pub fn after(&self, cell: &Cell) -> Cell
+        requires valid { IsValidRewrite self.now }
+        ensures { (h : Header) → IsTrue (in_cell cell.now h) → IsTrue (in_cell result (rewritten self.now h)) }
+    {
+        let numbers = self.numbers();
+        cell.every_cell();
+        let mut made = *cell;
+        for field in 0..FIELDS {
+            let after = cell.interval(field).after(width(field), numbers[field]);
+            made.set(field, after);
+        }
+        made
+    }
+
     /// The headers of which two lists of sets make the same one, if there are any.
     pub fn same_from(&self, other: &Rewrite) -> Option<Cell>
         requires valid { IsValidRewrite self.now }

@@ -1,6 +1,6 @@
 //! Narrowing a cell until all its headers have one answer.
 
-ghost use Rattle.std.specs.Prelude.{◌≡◌, IsTrue, false};
+ghost use Rattle.std.specs.Prelude.{◌≡◌, ◌&&◌, IsTrue, false};
 ghost use Rattle.std.specs.List.{AllZip};
 ghost use Rattle.of10_match.specs.declared.header.Header.{Header};
 ghost use Rattle.header_classes.specs.Interval.{IsInner};
@@ -20,15 +20,30 @@ impl Cell {
         ensures settled { (h : Header) → IsTrue (in_cell self.new h) → in_cell other.now h ≡ result }
     {
         self.every_cell();
-        let Some(both) = self.meet(other) else {
-            return false;
-        };
         if other.has(header) {
-            *self = both;
+            self.narrow_to(header, other);
             return true;
         }
-        self.leave(header, other);
+        if self.meet(other).is_some() {
+            self.leave(header, other);
+        }
         false
+    }
+
+    /// Narrows the cell to what it has in common with another one, where a header is in both.
+    fn narrow_to(&mut self, header: &Header, other: &Cell)
+        requires inside { IsTrue (in_cell self.old header.now) }
+        requires both { IsTrue (in_cell other.now header.now) }
+        ensures both { (h : Header) → in_cell self.new h ≡ (in_cell self.old h && in_cell other.now h) }
+        ensures inner { AllZip IsInner self.old self.new }
+    {
+        self.every_cell();
+        other.every_cell();
+        for field in 0..FIELDS {
+            if let Some(both) = self.interval(field).meet(&other.interval(field)) {
+                self.set(field, both);
+            }
+        }
     }
 
     /// Narrows the cell, round a header of it that is not in another cell, until none of its headers is.

@@ -3,7 +3,7 @@ ghost use Rattle.std.specs.Prelude.{IfOk};
 ghost use Rattle.of10_messages.specs.Valid.{IsValidFlowMod};
 
 use super::partition::classes;
-use super::{Cell, Cells, Rewrite, cut};
+use super::{Cell, Cells, Rewrite, Trials, cut};
 use flow_table::{Command, Table};
 use of10_match::{Header, Match};
 use of10_messages::{Action, FlowMod, no_actions};
@@ -128,6 +128,21 @@ fn classes_of_tables(rt: HostRuntime) -> Result<(), Fail> {
     Ok(())
 }
 
+#[test]
+fn trials_of_a_table(rt: HostRuntime) -> Result<(), Fail> {
+    let alloc = rt.alloc();
+    let trials = Trials::of(alloc, &table_of(alloc, &[(ANY, 5), (TO_HOST, 9)])?)?;
+    for (header, place, beside) in [(to(2), 1usize, to(3)), (ZERO, 0, to(2))] {
+        let mut cell = Cell::full();
+        if !cell.has(&header) {
+            return Err("the header is valid".into());
+        }
+        assert_eq!(rt; trials.best(&mut cell, &header, 1), Some(place));
+        assert!(rt; cell.has(&header) && !cell.has(&beside));
+    }
+    Ok(())
+}
+
 // What a match takes of all headers, where it takes the port.
 fn cell_of(matches: &Match) -> Result<Cell, Fail> {
     if !matches.is_valid() {
@@ -165,6 +180,14 @@ fn headers_before_sets(rt: HostRuntime) -> Result<(), Fail> {
     sets.act(&Action::SetDlDst(2));
     assert_eq!(rt; sets.before(&host), Some(Cell::full()));
     assert_eq!(rt; sets.before(&network), Some(network));
+    let after = sets.after(&network);
+    let address = from(0x0a00_0000);
+    assert!(rt;
+        after.has(&Header {
+            dl_dst: 2,
+            ..address
+        }) && !after.has(&address)
+    );
     assert_eq!(rt; sets.same_from(&Rewrite::none()), Some(host));
     Ok(())
 }
