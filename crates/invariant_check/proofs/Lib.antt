@@ -1,8 +1,8 @@
 pub mod Depth
 pub mod Known
-pub mod Leads
 pub mod Reaches
 pub mod Sent
+pub mod Tables
 pub mod Turns
 pub mod Walks
 pub mod OneWalk

@@ -1,5 +1,4 @@
 pub mod Class
-pub mod Lead
 pub mod Network
 pub mod Reach
 pub mod Search

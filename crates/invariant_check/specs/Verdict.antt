@@ -67,3 +67,8 @@ IsVerdict net invariant Holds = (host : ℕ) (header : Header) → Keeps net inv
 IsVerdict net invariant (Violated host header walk) =
     ((from : Node) × IsStart net invariant host header from × IsFirstWalk net invariant from walk.nodes walk.finish)
     × ((other_host : ℕ) (other_header : Header) → IsLess other_host other_header host header → Keeps net invariant other_host other_header)
+
+-- whether a verdict says that its invariant is violated
+abbrev pub is_violated : Verdict → Bool
+is_violated Holds = false
+is_violated (Violated host header walk) = true

@@ -1,10 +1,12 @@
 //! What the switch of a stop sends, for all headers of a class at once.
 
 ghost use Rattle.std.specs.Prelude.{◌≡◌, ◌++◌, All, IfOk, OnOk, map};
+ghost use Rattle.std.specs.List.{AllZip};
 ghost use Rattle.of10_match.specs.declared.header.Header.{Header};
 ghost use Rattle.of10_messages.specs.Valid.{IsValidAction};
 ghost use Rattle.flow_table.specs.Outcome.{outcome};
 ghost use Rattle.header_classes.specs.Rewrite.{IsValidRewrite, rewritten};
+ghost use Rattle.header_classes.specs.Trials.{AreTrials};
 ghost use Rattle.invariant_check.specs.Class.{IsNarrowed};
 ghost use Rattle.invariant_check.specs.Network.{IsNet};
 ghost use Rattle.invariant_check.specs.Stop.{AreHops, IsStop, hop_of, output_at};
@@ -13,7 +15,7 @@ use crate::class::Class;
 use crate::stop::{Hop, Hops, Stop};
 use event_world::NetState;
 use flow_table::{Output, outcome};
-use header_classes::Rewrite;
+use header_classes::{Rewrite, Trials};
 use listed::Listed;
 use of10_match::Header;
 use of10_messages::Action;
@@ -39,10 +41,12 @@ const ANY_HEADER: Header = Header {
 pub(crate) fn hops_of(
     alloc: Global,
     net: &NetState,
+    trials: &[Trials],
     class: &mut Class,
     stop: &Stop,
 ) -> Result<Hops, AllocError>
     requires net { IsNet net.now }
+    requires trials { AllZip AreTrials net.now.tables trials.now }
     requires stop { IsStop net.now stop.now }
     ensures narrowed { IsNarrowed class.old class.new }
     ensures hops { IfOk result (λ hops. AreHops net.now class.new.cell stop.now hops) }
@@ -51,7 +55,7 @@ pub(crate) fn hops_of(
     let s = usize::from(stop.s);
     let ports = net.topology.ports[s];
     let table = &net.tables[s];
-    match class.best(&stop.sets, stop.p, table) {
+    match class.best(&stop.sets, stop.p, &trials[s]) {
         Some(place) => hops_of_actions(alloc, ports, stop, &table.entries()[place].actions),
         None => hops_of_actions(alloc, ports, stop, &[]),
     }

@@ -1,6 +1,7 @@
 //! The least header of a cell by which an invariant is violated from a port.
 
 ghost use Rattle.std.specs.Prelude.{◌≡◌, ◌≢◌, ◌≤◌, ◌+◌, ◌*◌, IfOk, IfSome, IsNone, IsTrue, OnOk, cond, length, true};
+ghost use Rattle.std.specs.List.{AllZip};
 ghost use Rattle.std.specs.Option.{option_map_or};
 ghost use Rattle.std.specs.Ordering.{is_lt};
 ghost use Rattle.std.specs.declared.cmp.Ordering.TheVariants.{Less};
@@ -9,6 +10,7 @@ ghost use Rattle.of10_match.specs.declared.header.Header.{Header};
 ghost use Rattle.topology.specs.Network.{IsPort};
 ghost use Rattle.header_classes.specs.Cell.{in_cell, times};
 ghost use Rattle.header_classes.specs.Size.{size, sizes};
+ghost use Rattle.header_classes.specs.Trials.{AreTrials};
 ghost use Rattle.invariant_check.specs.Network.{IsNet};
 ghost use Rattle.invariant_check.specs.Verdict.{IsFirstWalk, IsFree};
 
@@ -16,7 +18,7 @@ use crate::class::Class;
 use crate::explore::explore;
 use crate::walk::Walk;
 use event_world::NetState;
-use header_classes::{Cell, Cells, laws};
+use header_classes::{Cell, Cells, Trials, laws};
 use of10_match::Header;
 use std::alloc::{AllocError, Global};
 use topology::Invariant;
@@ -33,12 +35,14 @@ pub(crate) struct Witness {
 pub(crate) fn least_witness(
     alloc: Global,
     net: &NetState,
+    trials: &[Trials],
     invariant: &Invariant,
     s: u16,
     p: u16,
     cell: Cell,
 ) -> Result<Option<Witness>, AllocError>
     requires net { IsNet net.now }
+    requires trials { AllZip AreTrials net.now.tables trials.now }
     requires place { IsPort net.now.topology.ports (s, p) }
     ensures free { IfOk result (λ found. IsNone found → (h : Header) → IsTrue (in_cell cell h)
         → IsFree net.now invariant.now (record { s = s; p = p; header = h })) }
@@ -57,7 +61,7 @@ pub(crate) fn least_witness(
         if !is_less(&part.least(), &best) {
             continue;
         }
-        if let Some(witness) = look(alloc, net, invariant, s, p, part, &mut left)? {
+        if let Some(witness) = look(alloc, net, trials, invariant, s, p, part, &mut left)? {
             best = Some(witness);
         }
     }
@@ -79,6 +83,7 @@ fn is_less(header: &Header, best: &Option<Witness>) -> bool
 fn look(
     alloc: Global,
     net: &NetState,
+    trials: &[Trials],
     invariant: &Invariant,
     s: u16,
     p: u16,
@@ -86,6 +91,7 @@ fn look(
     left: &mut Cells,
 ) -> Result<Option<Witness>, AllocError>
     requires net { IsNet net.now }
+    requires trials { AllZip AreTrials net.now.tables trials.now }
     requires place { IsPort net.now.topology.ports (s, p) }
     ensures inside { IfOk result (λ found. IfSome found (λ witness. IsTrue (in_cell cell witness.header))) }
     ensures least { IfOk result (λ found. IfSome found (λ witness. (h : Header) → IsTrue (in_cell cell h)
@@ -100,7 +106,7 @@ fn look(
 {
     laws::inner_cells_are_parts();
     let mut class = Class::of(cell);
-    if let Some(walk) = explore(alloc, net, invariant, s, p, &mut class)? {
+    if let Some(walk) = explore(alloc, net, trials, invariant, s, p, &mut class)? {
         return Ok(Some(Witness {
             header: class.header,
             walk,

@@ -10,6 +10,7 @@ mod least;
 mod reach;
 mod search;
 mod stop;
+mod tried;
 mod walk;
 
 pub use walk::{Finish, Node, Nodes, Verdict, Verdicts, Walk};

@@ -1,11 +1,13 @@
 //! A search in depth of the walks of all headers of a class at once, in the order of the places of their outputs.
 
 ghost use Rattle.std.specs.Prelude.{◌≡◌, ◌≢◌, ◌<◌, ◌++◌, ◌∷◌, ◌↔◌, [], All, IfOk, IsTrue, OnOk, length, map};
+ghost use Rattle.std.specs.List.{AllZip};
 ghost use Rattle.of10_match.specs.declared.header.Header.{Header};
 ghost use Rattle.topology.specs.declared.invariant.Invariant.{Invariant};
 ghost use Rattle.topology.specs.Network.{IsPort};
 ghost use Rattle.header_classes.specs.Cell.{in_cell};
 ghost use Rattle.header_classes.specs.Rewrite.{IsValidRewrite};
+ghost use Rattle.header_classes.specs.Trials.{AreTrials};
 ghost use Rattle.invariant_check.specs.Class.{IsNarrowed};
 ghost use Rattle.invariant_check.specs.Network.{IsNet};
 ghost use Rattle.invariant_check.specs.Search.{In};
@@ -19,7 +21,7 @@ use crate::reach::{Reach, forbids, reach_from};
 use crate::stop::{Hop, Stop};
 use crate::walk::{Finish, Walk};
 use event_world::NetState;
-use header_classes::Rewrite;
+use header_classes::{Rewrite, Trials};
 use listed::Listed;
 use std::alloc::{AllocError, Global};
 use std::mem;
@@ -57,15 +59,22 @@ impl Frame {
     ghost use Rattle.invariant_check.specs.Turn.{IsFrame};
 
     /// A stop of which no hop was tried. The class is narrowed until the hops are the same for all its headers.
-    fn of(alloc: Global, net: &NetState, class: &mut Class, stop: Stop) -> Result<Frame, AllocError>
+    fn of(
+        alloc: Global,
+        net: &NetState,
+        trials: &[Trials],
+        class: &mut Class,
+        stop: Stop,
+    ) -> Result<Frame, AllocError>
         requires net { IsNet net.now }
+        requires trials { AllZip AreTrials net.now.tables trials.now }
         requires stop { IsStop net.now stop }
         ensures narrowed { IsNarrowed class.old class.new }
         ensures frame { IfOk result (λ frame. IsFrame net.now class.new.cell frame) }
         ensures stop { IfOk result (λ frame. frame.stop ≡ stop) }
         ensures next { IfOk result (λ frame. frame.next ≡ 0) }
     {
-        let hops = hops_of(alloc, net, class, &stop)?;
+        let hops = hops_of(alloc, net, trials, class, &stop)?;
         Ok(Frame {
             stop,
             hops: hops.into_vec(),
@@ -82,11 +91,13 @@ impl Search {
     pub(crate) fn start(
         alloc: Global,
         net: &NetState,
+        trials: &[Trials],
         class: &mut Class,
         s: u16,
         p: u16,
     ) -> Result<Search, AllocError>
         requires net { IsNet net.now }
+        requires trials { AllZip AreTrials net.now.tables trials.now }
         requires place { IsPort net.now.topology.ports (s, p) }
         ensures narrowed { IsNarrowed class.old class.new }
         ensures held { IfOk result (λ search. IsHeld net.now class.new.cell search) }
@@ -98,7 +109,7 @@ impl Search {
             sets: Rewrite::none(),
         };
         Ok(Search {
-            top: Frame::of(alloc, net, class, stop)?,
+            top: Frame::of(alloc, net, trials, class, stop)?,
             below: Vec::new(alloc),
             done: Vec::new(alloc),
         })
@@ -109,10 +120,12 @@ impl Search {
         &mut self,
         alloc: Global,
         net: &NetState,
+        trials: &[Trials],
         invariant: &Invariant,
         class: &mut Class,
     ) -> Result<Turn, AllocError>
         requires net { IsNet net.now }
+        requires trials { AllZip AreTrials net.now.tables trials.now }
         requires held { IsHeld net.now class.old.cell self.old }
         ensures narrowed { IsNarrowed class.old class.new }
         ensures turn { IfOk result (λ turn. IsTurned net.now invariant.now class.new self.old self.new turn) }
@@ -123,7 +136,7 @@ impl Search {
             match reach_from(net, invariant, self.top.stop.s, &hop) {
                 Reach::Nothing => Ok(self.skip()),
                 Reach::End(finish) => Ok(Turn::Found(self.walk(alloc, class, finish)?)),
-                Reach::Onward(stop) => self.go_on(alloc, net, invariant, class, stop),
+                Reach::Onward(stop) => self.go_on(alloc, net, trials, invariant, class, stop),
             }
         } else {
             self.leave()
@@ -135,11 +148,13 @@ impl Search {
         &mut self,
         alloc: Global,
         net: &NetState,
+        trials: &[Trials],
         invariant: &Invariant,
         class: &mut Class,
         stop: Stop,
     ) -> Result<Turn, AllocError>
         requires net { IsNet net.now }
+        requires trials { AllZip AreTrials net.now.tables trials.now }
         requires held { IsHeld net.now class.old.cell self.old }
         requires stop { IsStop net.now stop }
         requires more { self.old.top.next < length self.old.top.hops.items }
@@ -158,7 +173,7 @@ impl Search {
         } else if is_among(class, self.done.as_slice(), &stop) {
             Ok(self.skip())
         } else {
-            self.enter(alloc, net, class, stop)
+            self.enter(alloc, net, trials, class, stop)
         }
     }
 
@@ -177,10 +192,12 @@ impl Search {
         &mut self,
         alloc: Global,
         net: &NetState,
+        trials: &[Trials],
         class: &mut Class,
         stop: Stop,
     ) -> Result<Turn, AllocError>
         requires net { IsNet net.now }
+        requires trials { AllZip AreTrials net.now.tables trials.now }
         requires stop { IsStop net.now stop }
         requires more { self.old.top.next < length self.old.top.hops.items }
         ensures narrowed { IsNarrowed class.old class.new }
@@ -191,7 +208,7 @@ impl Search {
         ensures below { OnOk result (self.new.below.items ≡ self.old.below.items ++ (skipped self.old).top ∷ []) }
         ensures done { OnOk result (self.new.done ≡ self.old.done) }
     {
-        let frame = Frame::of(alloc, net, class, stop)?;
+        let frame = Frame::of(alloc, net, trials, class, stop)?;
         let mut left = mem::replace(&mut self.top, frame);
         left.next += 1;
         self.below.push(left)?;

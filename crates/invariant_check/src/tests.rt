@@ -168,7 +168,9 @@ fn a_rewrite_makes_a_loop(rt: HostRuntime) -> Result<(), Fail> {
 fn a_bare_port_is_a_black_hole(rt: HostRuntime) -> Result<(), Fail> {
     let net = one_switch(rt.alloc(), onward(rt.alloc(), ANY)?)?;
     let hole = verdict(rt.alloc(), &net, &Invariant::NoBlackHole)?;
-    assert!(rt; is_violated(&hole, &to(0), &[(0, 1, 0)], Finish::Out { s: 0, p: 2 }));
+    assert!(rt;
+        hole.is_violated() && is_violated(&hole, &to(0), &[(0, 1, 0)], Finish::Out { s: 0, p: 2 })
+    );
     Ok(())
 }
 

@@ -1,5 +1,7 @@
 //! Walks of packets through a network, and verdicts.
 
+ghost use Rattle.std.specs.Prelude.{◌≡◌};
+
 use listed::Listed;
 use of10_match::Header;
 
@@ -42,6 +44,17 @@ pub enum Verdict {
         header: Header,
         walk: Walk,
     },
+}
+
+impl Verdict {
+    ghost use Rattle.invariant_check.specs.Verdict.{is_violated};
+
+    /// Whether it says that its invariant is violated.
+    pub fn is_violated(&self) -> bool
+        ensures { result ≡ is_violated self.now }
+    {
+        matches!(self, Verdict::Violated { .. })
+    }
 }
 
 /// Verdicts, in the order of their invariants.

@@ -1,26 +1,18 @@
--- The lead among all entries is the best one.
-use Rattle.std.proofs.Common.{◌≡◌, ◌∙◌, ℕ, length, sym, ap, arith}
-use Rattle.std.specs.Option.{option_map}
+-- Each header that is left is brought into the cell by the sets, as the header of the class is.
+use Rattle.std.proofs.Common.{◌≡◌, ◌∙◌, true, sym}
+use Rattle.header_classes.specs.Cell.{in_cell, in_some}
 use Rattle.header_classes.specs.Rewrite.{rewritten}
-use Rattle.invariant_check.proofs.Leads.{lead_best}
 use Rattle.invariant_check.proofs.class.Class.best.Goals as goal
 
-pub returns-in_err-place-clause-every : goal.returns-in_err-place-clause-every
-returns-in_err-place-clause-every c = λ h inside.
-    let table = c.args.table.now in
-    let g = rewritten c.args.sets.now h in
-    let at_end : c.loop-place.place ≡ length table = rw (← c.entries-entries.ensures.entries) (omega arith) in
-    let lead = rw (c.entries-entries.ensures.entries, at_end) at (c.loop-place.invariant.lead h inside) in
-    lead_best table c.args.port g c.least_rank-lowest.result c.loop-place.lead (c.the_best_entry_is_unbeaten.ensures.best table c.args.port g)
-    (c.the_best_entry_is_unbeaten.ensures.only table c.args.port g) (c.loop-place.invariant.least h inside) lead
-    ∙ ap (option_map (λ (lead : ℕ × ℕ). lead.0)) c.in_err-place.was ∙ sym c.from_residual.ensures
-
 pub returns-clause-every : goal.returns-clause-every
-returns-clause-every c = λ h inside.
-    let table = c.args.table.now in
-    let g = rewritten c.args.sets.now h in
-    let at_end : c.loop-place.place ≡ length table = rw (← c.entries-entries.ensures.entries) (omega arith) in
-    let lead = rw (c.entries-entries.ensures.entries, at_end) at (c.loop-place.invariant.lead h inside) in
-    lead_best table c.args.port g c.least_rank-lowest.result c.loop-place.lead (c.the_best_entry_is_unbeaten.ensures.best table c.args.port g)
-    (c.the_best_entry_is_unbeaten.ensures.only table c.args.port g) (c.loop-place.invariant.least h inside) lead
-    ∙ ap (option_map (λ (lead : ℕ × ℕ). lead.0)) c.in_ok-place.was
+returns-clause-every c = λ entries h are inside.
+    let sets = c.args.sets.now in
+    let old = c.args.self.now in
+    let new = c.settle.new.self in
+    let after = c.best-best.new.cell in
+    let there : in_cell after (rewritten sets old.header) ≡ true = rw c.apply.ensures.after at c.best-best.ensures.inside in
+    let mine : in_some c.before-2.result old.header ≡ true = c.before-2.ensures old.header (c.a_cell_has_valid_headers.ensures.valid old.header old.inside) ∙ there in
+    let kept : in_cell new.cell old.header ≡ true = rw c.settle.ensures.narrowed.header at new.inside in
+    let all : c.settle.result ≡ true = sym (c.settle.ensures.settled old.header kept) ∙ mine in
+    let brought : in_cell after (rewritten sets h) ≡ true = sym (c.before-2.ensures h (c.settle.ensures.valid h inside)) ∙ c.settle.ensures.settled h inside ∙ all in
+    c.best-best.ensures.best entries (rewritten sets h) are brought
