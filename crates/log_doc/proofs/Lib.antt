@@ -1,4 +1,5 @@
 pub mod Holding
+pub mod Readable
 pub mod WrittenEntries
 pub mod WrittenItems
 pub mod WrittenLogs

@@ -1,15 +1,17 @@
 -- The entries of a log read back.
-use Rattle.std.proofs.Common.{inl, inr, ap₂, ◌++◌, ◌≡◌, ℕ, ◌≤◌, ◌<◌, ◌^◌, ◌+◌, ◌-◌, zero, suc, List, [], ◌∷◌, map, length, take, get_or, All, Option, Some, None, Ok, Bool, true, false, refl, sym, ap, subst, ◌∙◌, arith, rules}
-use Rattle.std.specs.Prelude.{nat_le, ⊤}
-use Rattle.std.proofs.lemmas.List.{map-append}
+use Rattle.std.proofs.Common.{inl, inr, ◌++◌, ◌≡◌, ℕ, ◌≤◌, ◌<◌, ◌^◌, ◌+◌, ◌-◌, zero, suc, List, [], ◌∷◌, map, length, take, get_or, All, Option, Some, None, Result, Ok, Err, Bool, true, false, refl, sym, ap, subst, ◌∙◌, append-nil, append_assoc, arith, rules}
+use Rattle.std.specs.Prelude.{OnOk, nat_le, ⊤}
 use Rattle.std.proofs.Math.Seq.{take-suc}
-use Rattle.serde_json.specs.declared.value.Value.{Value}
+use Rattle.std.proofs.lemmas.Grind.{flat_map-append}
 use Rattle.std.proofs.lemmas.List.Elements.{All-head, All-tail}
 use Rattle.std.proofs.lemmas.Bool.{cases_lt}
 use Rattle.std.proofs.lemmas.Bool.Decides.{nat_tests}
+use Rattle.json.specs.Token.{Token, begin_array, end_array}
+use Rattle.json.specs.Tree.{items_tokens}
 use Rattle.serde_json.specs.Data.{Data}
 use Rattle.serde_json.specs.Events.{items_len}
-use Rattle.serde_json.specs.View.{items_of, view}
+use Rattle.serde_json.specs.View.{items_of}
+use Rattle.serde_json.specs.Written.{items_outline}
 use Rattle.event_world.specs.declared.event.Event.{Event}
 use Rattle.event_world.specs.declared.event.Event.TheVariants as event
 use Rattle.event_machine.specs.declared.trace.End.{End}
@@ -22,6 +24,7 @@ use Rattle.doc_forms.specs.Written.{list_data, number_data}
 use Rattle.scenario_doc.specs.Packets.{bits}
 use Rattle.scenario_doc.specs.Rules.{at, each, each_from}
 use Rattle.log_doc.specs.Entries.{end_of, entry_of, entry_rules, has_item, item_of, item_place}
+use Rattle.log_doc.specs.Tokens.{data_tokens, entries_tokens}
 use Rattle.log_doc.specs.Written.{HasTaken, IsNarrowEvent, IsTaken, IsWritableEntry, end_data, entry_data, event_data, hex_data, taken_bytes}
 use Rattle.log_doc.specs.declared.items.ItemKind.{ItemKind}
 use Rattle.log_doc.specs.declared.items.ItemKind.TheVariants as kind
@@ -159,16 +162,41 @@ one_more_read entries i entry is so_far reads workers w k d before within = elim
       subst EntryReads here (reads workers (subst (IsWritableEntry workers) (sym here) (w k d within)))
 ]
 
-pub one_more_written : (entries : List Entry) (i : ℕ) (entry : Entry) (done after : List Value) (value : Value) → i < length entries
-    → entry ≡ get_or entries i entry → map view done ≡ map entry_data (take i entries) → after ≡ done ++ value ∷ [] → view value ≡ entry_data entry
-    → map view after ≡ map entry_data (take (i + 1) entries)
-one_more_written entries i entry done after value within is so_far pushed written =
-    let before : List Entry = take i entries in
+pub one_more_written : (entries : List Entry) (i : ℕ) (entry : Entry) (old so_far new : List Token) → i < length entries → entry ≡ get_or entries i entry
+    → so_far ≡ old ++ entries_tokens (take i entries) → new ≡ so_far ++ data_tokens (entry_data entry)
+    → new ≡ old ++ entries_tokens (take (i + 1) entries)
+one_more_written entries i entry old so_far new within is before written =
+    let done : List Entry = take i entries in
     let next : i + 1 ≡ suc i = omega arith in
-    let more : take (i + 1) entries ≡ before ++ entry ∷ [] =
-    ap (λ n. take n entries) next ∙ take-suc entries i entry within ∙ ap (λ x. before ++ x ∷ []) (sym is) in
-    ap (map view) pushed ∙ map-append view done (value ∷ []) ∙ ap₂ (λ xs y. xs ++ y ∷ []) so_far written
-    ∙ sym (map-append entry_data before (entry ∷ [])) ∙ ap (map entry_data) (sym more)
+    let more : take (i + 1) entries ≡ done ++ entry ∷ [] =
+    ap (λ n. take n entries) next ∙ take-suc entries i entry within ∙ ap (λ x. done ++ x ∷ []) (sym is) in
+    let both : entries_tokens (take (i + 1) entries) ≡ entries_tokens done ++ data_tokens (entry_data entry) =
+    ap entries_tokens more ∙ flat_map-append (λ x. data_tokens (entry_data x)) done (entry ∷ [])
+    ∙ ap (λ ts. entries_tokens done ++ ts) (append-nil (data_tokens (entry_data entry))) in
+    written ∙ ap (λ ts. ts ++ data_tokens (entry_data entry)) before ∙ append_assoc old (entries_tokens done) (data_tokens (entry_data entry))
+    ∙ ap (λ ts. old ++ ts) (sym both)
+
+-- the tokens of a list of entries end with its bracket
+closed : (entries : List Entry) → items_tokens (items_outline (items_of (map entry_data entries))) ≡ entries_tokens entries ++ end_array ∷ []
+closed [] = refl
+closed (x ∷ xs) =
+    ap (λ ts. data_tokens (entry_data x) ++ ts) (closed xs) ∙ sym (append_assoc (data_tokens (entry_data x)) (entries_tokens xs) (end_array ∷ []))
+
+-- a list of entries between its brackets
+pub list_done : {E : Type 0} (r : Result (Unit {0}) E) (entries : List Entry) (old opened so_far new : List Token) → opened ≡ old ++ begin_array ∷ []
+    → so_far ≡ opened ++ entries_tokens entries → OnOk r (new ≡ so_far ++ end_array ∷ [])
+    → OnOk r (new ≡ old ++ data_tokens (list_data entry_data entries))
+list_done (Ok done) entries old opened so_far new first then last =
+    last ∙ ap (λ ts. ts ++ end_array ∷ []) (then ∙ ap (λ ts. ts ++ entries_tokens entries) first)
+    ∙ ap (λ ts. ts ++ end_array ∷ []) (append_assoc old (begin_array ∷ []) (entries_tokens entries))
+    ∙ append_assoc old (begin_array ∷ entries_tokens entries) (end_array ∷ [])
+    ∙ ap (λ ts. old ++ begin_array ∷ ts) (sym (closed entries))
+list_done (Err why) entries old opened so_far new first then last = tt
+
+-- what holds of itself holds where a call does its work
+pub done_always : {E : Type 0} (r : Result (Unit {0}) E) (P : Type 0) → P → OnOk r P
+done_always (Ok done) P h = h
+done_always (Err why) P h = tt
 
 pub all_read_back : (entries : List Entry) (i : ℕ) → length entries ≤ i → ReadSoFar entries i
     → (workers : ℕ) → All (IsWritableEntry workers) entries → All EntryReads entries

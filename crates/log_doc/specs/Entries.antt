@@ -1,6 +1,6 @@
 -- The entries of a log as documents write them. Rules: 21 a text is not an even number of hexadecimal digits, 22 an item's bytes are not
 -- of its pool's kind, 23 there is no such worker.
-use Rattle.std.specs.Prelude.{ℕ, ◌-◌, ◌^◌, ◌||◌, List, Option, Some, None, is_some, nat_le, Result, Ok, Err, Bool, true, false, codes, if◌then◌else◌, ⊤}
+use Rattle.std.specs.Prelude.{ℕ, List, Option, Some, None, is_some, nat_le, Result, Ok, Err, Bool, true, codes, if◌then◌else◌, ⊤}
 use Rattle.std.specs.Str.{bytes_eq}
 use Rattle.hex.specs.Hex.{decode_of}
 use Rattle.hex.specs.declared.error.FromHexError.{FromHexError}
@@ -11,7 +11,7 @@ use Rattle.event_world.specs.declared.event.Event.TheVariants as event
 use Rattle.event_machine.specs.declared.trace.End.{End}
 use Rattle.event_machine.specs.declared.trace.End.TheVariants.{Quiet, Full}
 use Rattle.event_machine.specs.declared.trace.Entry.{Entry}
-use Rattle.doc_forms.specs.Forms.{counted, element, kind, kind_of, number, text}
+use Rattle.doc_forms.specs.Forms.{counted, element, kind, kind_of, text}
 use Rattle.doc_forms.specs.Reading.{Reading, ◌>>=◌, refused, require}
 use Rattle.scenario_doc.specs.Packets.{bits}
 use Rattle.scenario_doc.specs.Rules.{at}

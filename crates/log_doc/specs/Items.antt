@@ -1,12 +1,10 @@
 -- The bytes of items, by the kind of their pool.
-use Rattle.std.specs.Prelude.{ℕ, ◌==◌, ◌&&◌, List, [], ◌∷◌, drop, length, is_none, Option, Some, None, option_map, nat_le, slice_index, Bool, if◌then◌else◌}
+use Rattle.std.specs.Prelude.{ℕ, ◌==◌, ◌&&◌, List, length, is_none, Option, Some, None, nat_le, slice_index, if◌then◌else◌}
 use Rattle.byteorder.specs.Endian.{big_from}
 use Rattle.of10_match.specs.Packet.{packet_of}
 use Rattle.of10_match.specs.Wire.{match_of}
 use Rattle.of10_messages.specs.Reading.{message_of}
 use Rattle.of10_messages.specs.Refusal.{refusal_of}
-use Rattle.of10_messages.specs.declared.message.Message.{Message}
-use Rattle.of10_messages.specs.declared.notice.Notice.{Notice}
 use Rattle.of10_messages.specs.declared.notice.Notice.TheVariants as notice
 use Rattle.message_pools.specs.declared.item.Item.{Item}
 use Rattle.message_pools.specs.declared.item.Item.TheVariants as item

@@ -1,4 +1,5 @@
 pub mod Entries
 pub mod Items
 pub mod Log
+pub mod Tokens
 pub mod Written

@@ -6,7 +6,6 @@ use Rattle.doc_forms.specs.Reading.{Reading, ◌>>=◌, under}
 use Rattle.scenario_doc.specs.Draft.{draft_of, version}
 use Rattle.scenario_doc.specs.Rules.{draft_rules, each}
 use Rattle.scenario_doc.specs.Scenario.{made}
-use Rattle.event_machine.specs.declared.trace.Trace.{Trace}
 use Rattle.log_doc.specs.Entries.{end_of, entry_of, entry_rules}
 use Rattle.log_doc.specs.declared.log.Log.{Log}
 

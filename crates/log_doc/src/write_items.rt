@@ -42,7 +42,8 @@ fn tick_bytes(alloc: Global, seconds: u32) -> Result<Vec<u8>, AllocError>
 {
     let mut number = [0; 4];
     BigEndian::write_u32(&mut number, seconds);
-    let mut bytes = vec![in alloc; 0]?;
+    let mut bytes = Vec::with_capacity(alloc, 5)?;
+    bytes.push(0)?;
     bytes.extend_from_slice(&number)?;
     Ok(bytes)
 }
@@ -52,7 +53,8 @@ fn port_bytes(alloc: Global, port: u16, down: bool) -> Result<Vec<u8>, AllocErro
 {
     let mut number = [0; 2];
     BigEndian::write_u16(&mut number, port);
-    let mut bytes = vec![in alloc; 1]?;
+    let mut bytes = Vec::with_capacity(alloc, 4)?;
+    bytes.push(1)?;
     bytes.extend_from_slice(&number)?;
     bytes.push(u8::from(down))?;
     Ok(bytes)
@@ -63,7 +65,8 @@ fn join_bytes(alloc: Global, down: u64) -> Result<Vec<u8>, AllocError>
 {
     let mut number = [0; 8];
     BigEndian::write_u64(&mut number, down);
-    let mut bytes = vec![in alloc; 2]?;
+    let mut bytes = Vec::with_capacity(alloc, 9)?;
+    bytes.push(2)?;
     bytes.extend_from_slice(&number)?;
     Ok(bytes)
 }
