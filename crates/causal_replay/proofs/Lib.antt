@@ -2,7 +2,10 @@ pub mod AlikeReaction
 pub mod AlikeStep
 pub mod AlikeTables
 pub mod Enabled
+pub mod Existence
+pub mod LegalSteps
 pub mod Leavings
+pub mod PoolNames
 pub mod Pushed
 pub mod Reached
 pub mod Segments

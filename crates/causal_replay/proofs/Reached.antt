@@ -1,26 +1,24 @@
 -- What a replay has come to before an entry.
 use Rattle.std.proofs.Common.{◌≡◌, ◌∙◌, ℕ, ◌+◌, ◌*◌, ◌<◌, ◌≤◌, ◌^◌, Bool, List, [], ◌∷◌, ◌++◌, length, slice_get, Some, ap, arith, inl, inr, refl, subst, sym}
-use Rattle.std.proofs.lemmas.List.{append-nil, length-append, map-append}
+use Rattle.std.proofs.lemmas.List.{append-nil, length-append}
 use Rattle.std.proofs.lemmas.List.Concat.{flat_map-append}
-use Rattle.std.proofs.lemmas.List.Sums.{fold-append}
 use Rattle.std.proofs.lemmas.Option.{same_Some, slice_get_within}
 use Rattle.controller_api.specs.Reaction.{Reaction}
 use Rattle.controller_api.specs.declared.item.UpItem.{UpItem}
 use Rattle.machine_setup.specs.Setup.{IsValidSetup}
 use Rattle.machine_setup.specs.declared.setup.Setup.{Setup}
-use Rattle.event_world.specs.Events.{number_of}
 use Rattle.event_world.specs.Fits.{Fits}
-use Rattle.event_world.specs.World.{Situation, next, start}
+use Rattle.event_world.specs.World.{Situation, start}
 use Rattle.event_world.specs.declared.event.Event.{Event}
-use Rattle.event_world.specs.declared.event.Event.TheVariants.{In}
 use Rattle.event_machine.specs.Legal.{IsLegalEvent, IsSoundTo, world_before}
 use Rattle.event_machine.specs.declared.trace.Entry.{Entry}
-use Rattle.event_machine.proofs.FirstEvents.{is_due}
 use Rattle.event_machine.proofs.Histories.{next_inputs, world_more}
 use Rattle.causal_replay.specs.Going.{GoesOn, IsReady}
 use Rattle.causal_replay.specs.Replay.{AreSegments, IsReplay, IsSegment, Segment, absent_in, absent_of, after, events_of, joined, steps_of, world_at}
 use Rattle.causal_replay.specs.declared.replayed.Taken.{Taken}
+use Rattle.causal_replay.proofs.Enabled.{line_of_input}
 use Rattle.causal_replay.proofs.Pushed.{front_of_front, front_of_last, pushed}
+use Rattle.causal_replay.proofs.Waiting.{after_on}
 
 -- segments with one more
 pub joined_more : (segments : List Segment) (segment : Segment) → joined (segments ++ segment ∷ []) ≡ joined segments ++ steps_of segment
@@ -30,9 +28,6 @@ pub absent_more : (segments : List Segment) (segment : Segment) → absent_in (s
 absent_more segments segment = flat_map-append absent_of segments (segment ∷ []) ∙ ap (λ (last : List ℕ). absent_in segments ++ last) (append-nil (absent_of segment))
 
 module _ {C : Type 0} (react : C → UpItem → Reaction C) (first : C → C) where
-  world_on : (setup : Setup C) (run more : List Taken) → world_at react first setup (run ++ more) ≡ after react setup (world_at react first setup run) (events_of more)
-  world_on setup run more = ap (λ (all : List Event). after react setup (start first setup) all) (map-append (λ (one : Taken). one.event) run more) ∙ fold-append (next react setup) (start first setup) (events_of run) (events_of more)
-
   -- What is known before the entry at a place: the segments of the earlier ones, and that there were few enough events and no more
   -- inputs than in the history.
   pub record Reached (policies : C → ℕ) (setup : Setup C) (entries : List Entry) (keep : List Bool) (at : ℕ) (run : List Taken) (absent : List ℕ) (world : Situation C) : Type 0 where
@@ -65,7 +60,7 @@ module _ {C : Type 0} (react : C → UpItem → Reaction C) (first : C → C) wh
       }
 
   -- one entry more
-  each_more : (setup : Setup C) (entries : List Entry) (keep : List Bool) (at : ℕ) (entry : Entry) (segments : List Segment) (segment : Segment) → AreSegments react first setup entries keep segments → length segments ≡ at → slice_get entries at ≡ Some entry
+  pub each_more : (setup : Setup C) (entries : List Entry) (keep : List Bool) (at : ℕ) (entry : Entry) (segments : List Segment) (segment : Segment) → AreSegments react first setup entries keep segments → length segments ≡ at → slice_get entries at ≡ Some entry
       → IsSegment react setup keep at (world_at react first setup (joined segments)) entry segment → AreSegments react first setup entries keep (segments ++ segment ∷ [])
   each_more setup entries keep at entry segments segment each count here is = λ k other x there at_k. elim (pushed segments segment k x at_k) [
     | inl (found, below) ↦ subst (λ (front : List Segment). IsSegment react setup keep k (world_at react first setup (joined front)) other x) (sym (front_of_front segments segment k below)) (each k other x there found)
@@ -90,7 +85,7 @@ module _ {C : Type 0} (react : C → UpItem → Reaction C) (first : C → C) wh
         each = each_more setup entries keep at entry known.segments goes.segment known.each known.count here (subst (λ (w : Situation C). IsSegment react setup keep at w entry goes.segment) worlds goes.is_segment);
         run_is = goes.run ∙ ap (λ (front : List Taken). front ++ steps_of goes.segment) known.run_is ∙ sym (joined_more known.segments goes.segment);
         absent_is = goes.absent ∙ ap (λ (front : List ℕ). front ++ absent_of goes.segment) known.absent_is ∙ sym (absent_more known.segments goes.segment);
-        world_is = goes.world ∙ ap (λ (w : Situation C). after react setup w (events_of (steps_of goes.segment))) known.world_is ∙ sym (world_on setup run (steps_of goes.segment)) ∙ ap (world_at react first setup) (sym goes.run);
+        world_is = goes.world ∙ ap (λ (w : Situation C). after react setup w (events_of (steps_of goes.segment))) known.world_is ∙ sym (after_on react setup (start first setup) run (steps_of goes.segment)) ∙ ap (world_at react first setup) (sym goes.run);
         fits = goes.fits;
         events = omega (arith, known.events, goes.events);
         inputs = omega (arith, known.inputs, goes.inputs, counts);
@@ -101,10 +96,8 @@ module _ {C : Type 0} (react : C → UpItem → Reaction C) (first : C → C) wh
       → slice_get entries at ≡ Some entry → Reached policies setup entries keep at run absent world → IsReady setup world entry.event
   reached_ready policies setup entries keep at entry run absent world valid sound here known = λ position is.
       let legal : Situation C = world_before react first setup entries at in
-      let due = is_due setup.script legal.shared (In position) (subst (λ (event : Event). IsLegalEvent setup legal event entry.item) is (sound at entry (slice_get_within entries at entry here) here).0.1).0 in
-      let below = slice_get_within setup.script legal.shared.inputs due.line due.there in
-      let same : legal.shared.inputs ≡ position = ap number_of due.input in
-      (omega arith, omega (arith, valid.lines, known.inputs))
+      let line = line_of_input setup legal position entry.item (subst (λ (event : Event). IsLegalEvent setup legal event entry.item) is (sound at entry (slice_get_within entries at entry here) here).0.1) in
+      (line.1, omega (arith, valid.lines, known.inputs, line.0, line.1))
 
   -- few enough events happened
   pub reached_few : (policies : C → ℕ) (setup : Setup C) (entries : List Entry) (keep : List Bool) (at : ℕ) (entry : Entry) (run : List Taken) (absent : List ℕ) (world : Situation C) → IsValidSetup setup → IsSoundTo react first setup entries (length entries)

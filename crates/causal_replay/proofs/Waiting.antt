@@ -11,7 +11,7 @@ use Rattle.event_world.specs.declared.event.Event.{Event}
 use Rattle.event_machine.specs.declared.trace.Entry.{Entry}
 use Rattle.event_machine.proofs.Histories.{next_events, next_inputs}
 use Rattle.causal_replay.specs.Going.{Waits}
-use Rattle.causal_replay.specs.Replay.{HasExpected, IsWait, after, as_extra}
+use Rattle.causal_replay.specs.Replay.{HasExpected, IsWait, after, as_extra, events_of}
 use Rattle.causal_replay.specs.declared.replayed.Taken.{Taken}
 use Rattle.causal_replay.specs.declared.replayed.Why.TheVariants.{Extra}
 use Rattle.causal_replay.proofs.Enabled.{IsInternal}
@@ -21,6 +21,10 @@ module _ {C : Type 0} (react : C → UpItem → Reaction C) where
   -- the world after one event more
   pub after_more : (setup : Setup C) (world : Situation C) (events : List Event) (event : Event) → after react setup world (events ++ event ∷ []) ≡ next react setup (after react setup world events) event
   after_more setup world events event = fold-append (next react setup) world events (event ∷ [])
+
+  -- the world after steps and then others
+  pub after_on : (setup : Setup C) (world : Situation C) (steps more : List Taken) → after react setup world (events_of (steps ++ more)) ≡ after react setup (after react setup world (events_of steps)) (events_of more)
+  after_on setup world steps more = ap (after react setup world) (map-append (λ (one : Taken). one.event) steps more) ∙ fold-append (next react setup) world (events_of steps) (events_of more)
 
   -- a wait goes on by the first event that is enabled
   wait_more : (setup : Setup C) (world : Situation C) (entry : Entry) (extra : List Event) (event : Event) → IsWait react setup world entry extra → length extra < setup.limits.budget

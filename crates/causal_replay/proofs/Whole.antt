@@ -1,5 +1,5 @@
 -- A whole replay gives the run.
-use Rattle.std.proofs.Common.{◌≡◌, ◌∙◌, ℕ, ◌+◌, ◌≤◌, zero, suc, Bool, true, false, List, [], ◌∷◌, ◌++◌, length, map, take, Some, ap, ap₂, arith, inl, inr, refl, subst, sym}
+use Rattle.std.proofs.Common.{◌≡◌, ◌∙◌, ℕ, ◌+◌, ◌≤◌, zero, suc, Bool, true, false, List, [], ◌∷◌, ◌++◌, length, map, take, slice_get, Some, ap, ap₂, arith, inl, inr, refl, subst, sym}
 use Rattle.std.specs.List.{All, enumerate_from}
 use Rattle.std.proofs.lemmas.Bool.{true≢false}
 use Rattle.std.proofs.lemmas.List.{length-take, take_all}
@@ -28,7 +28,7 @@ use Rattle.causal_replay.proofs.Uniqueness.{one_expected}
 -- ---- own steps
 
 -- the own steps of entries that begin at a place
-abbrev own_from : ℕ → List Entry → List Taken
+abbrev pub own_from : ℕ → List Entry → List Taken
 own_from from entries = map (λ (one : ℕ × Entry). own_step one.0 one.1) (enumerate_from from entries)
 
 own_more : (from : ℕ) (entries : List Entry) (entry : Entry) → own_from from (entries ++ entry ∷ []) ≡ own_from from entries ++ own_step (from + length entries) entry ∷ []
@@ -37,8 +37,16 @@ own_more from (x ∷ xs) entry =
     let same : from + 1 + length xs ≡ from + length (x ∷ xs) = omega arith in
     ap (λ (rest : List Taken). own_step from x ∷ rest) (own_more (from + 1) xs entry ∙ ap (λ (n : ℕ). own_from (from + 1) xs ++ own_step n entry ∷ []) same)
 
+-- one entry more
+pub own_longer : (entries : List Entry) (at : ℕ) (entry : Entry) → slice_get entries at ≡ Some entry → own_from 0 (take at entries) ++ own_step at entry ∷ [] ≡ own_from 0 (take (at + 1) entries)
+own_longer entries at entry here =
+    let below = slice_get_within entries at entry here in
+    let cut = length-take at entries in
+    let place : at ≡ 0 + length (take at entries) = omega arith in
+    ap (λ (n : ℕ). own_from 0 (take at entries) ++ own_step n entry ∷ []) place ∙ sym (own_more 0 (take at entries) entry) ∙ ap (λ (front : List Entry). own_from 0 front) (sym (taken_on entries at entry here))
+
 -- their events are those of the entries
-own_events : (from : ℕ) (entries : List Entry) → events_of (own_from from entries) ≡ map (λ (entry : Entry). entry.event) entries
+pub own_events : (from : ℕ) (entries : List Entry) → events_of (own_from from entries) ≡ map (λ (entry : Entry). entry.event) entries
 own_events from [] = refl
 own_events from (x ∷ xs) = ap (λ (rest : List Event). x.event ∷ rest) (own_events (from + 1) xs)
 
@@ -70,7 +78,7 @@ own_expectation at (Recv h n) internal = refl
 
 module _ {C : Type 0} (react : C → UpItem → Reaction C) where
   -- in the world in which it is legal, an entry's own event is the expected one
-  own_expected : (setup : Setup C) (world : Situation C) (entry : Entry) (event : Event) → entry.event ≡ event → IsLegalEvent setup world event entry.item → (¬ IsInputEvent event) → IsExpected world.shared entry event
+  pub own_expected : (setup : Setup C) (world : Situation C) (entry : Entry) (event : Event) → entry.event ≡ event → IsLegalEvent setup world event entry.item → (¬ IsInputEvent event) → IsExpected world.shared entry event
   own_expected setup world entry (In position) e legal internal = absurd (internal tt)
   own_expected setup world entry (Ctl s n) e (head, is, at) internal = record { name = pool.Ctl s; item = head; number = n; head = head; pool = ap pool_name e; taken = is; first = at; alike = refl; event_is = refl }
   own_expected setup world entry (Pkt s p n) e (head, is, at) internal = record { name = pool.Pkt s p; item = head; number = n; head = head; pool = ap pool_name e; taken = is; first = at; alike = refl; event_is = refl }
@@ -84,7 +92,7 @@ module _ {C : Type 0} (react : C → UpItem → Reaction C) where
   no_wait setup world entry [] wait has = refl
   no_wait setup world entry (x ∷ xs) wait has = absurd ((wait.each 0 x refl).0 has)
 
-  own_segment : (setup : Setup C) (keep : List Bool) (at : ℕ) (world : Situation C) (entry : Entry) (segment : Segment) → All (λ kept. kept ≡ true) keep → IsLegalEvent setup world entry.event entry.item → IsSegment react setup keep at world entry segment
+  pub own_segment : (setup : Setup C) (keep : List Bool) (at : ℕ) (world : Situation C) (entry : Entry) (segment : Segment) → All (λ kept. kept ≡ true) keep → IsLegalEvent setup world entry.event entry.item → IsSegment react setup keep at world entry segment
       → (steps_of segment ≡ own_step at entry ∷ []) × (absent_of segment ≡ [])
   own_segment setup keep at world entry (Kept position) all legal (is, kept) = (ap (λ (event : Event). record { event = event; why = own_reason at event } ∷ []) (sym is), refl)
   own_segment setup keep at world entry Skipped all legal (position, is, skipped) = absurd (true≢false (sym (all_at (λ (kept : Bool). kept ≡ true) keep position false all skipped)))
@@ -119,12 +127,9 @@ module _ {C : Type 0} (react : C → UpItem → Reaction C) where
             let is = subst (λ (w : Situation C). IsSegment react setup keep at w entry segment) worlds (each at entry segment here there) in
             let own = own_segment setup keep at (world_before react first setup entries at) entry segment all (sound at entry (slice_get_within entries at entry here) here).0.1 is in
             let next : suc at ≡ at + 1 = omega arith in
-            let cut = length-take at entries in
-            let place : 0 + length (take at entries) ≡ at = omega arith in
             let longer : take (suc at) segments ≡ take at segments ++ segment ∷ [] = ap (λ n. take n segments) next ∙ taken_on segments at segment there in (
               ap joined longer ∙ joined_more (take at segments) segment ∙ ap₂ (λ (front last : List Taken). front ++ last) fronts.0 own.0
-                  ∙ ap (λ (n : ℕ). own_from 0 (take at entries) ++ own_step n entry ∷ []) (sym place) ∙ sym (own_more 0 (take at entries) entry)
-                  ∙ ap (λ (front : List Entry). own_from 0 front) (sym (taken_on entries at entry here)) ∙ ap (λ n. own_from 0 (take n entries)) (sym next),
+                  ∙ own_longer entries at entry here ∙ ap (λ n. own_from 0 (take n entries)) (sym next),
               ap absent_in longer ∙ absent_more (take at segments) segment ∙ ap₂ (λ (front last : List ℕ). front ++ last) fronts.1 own.1,
             )
         | inr (past, none) ↦ absurd (omega arith)
