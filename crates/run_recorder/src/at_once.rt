@@ -2,8 +2,9 @@
 ghost use Rattle.std.specs.Prelude.{◌≡◌, ◌≤◌, All, IfOk, length};
 ghost use Rattle.std.specs.Thread.{IsSend, IsSync};
 ghost use Rattle.machine_setup.specs.Setup.{IsValidSetup};
+ghost use Rattle.event_world.specs.Fits.{Fits};
 ghost use Rattle.event_machine.specs.Holding.{IsEntryOf};
-ghost use Rattle.event_machine.specs.Legal.{IsLegalRun};
+ghost use Rattle.event_machine.specs.Legal.{IsLegalRun, world_after};
 ghost use Rattle.event_machine.specs.Rule.{IsOneThreadRun};
 ghost use Rattle.paired_work.specs.Worked.{CanWork, HasWorked, HaveWorked};
 ghost use Rattle.run_recorder.specs.Answers.{AreDealt, AreParts, IsPartOf, RestComesLast};
@@ -17,10 +18,18 @@ use crate::part::{Part, Parts};
 use crate::recorder::Recorder;
 use controller_api::Controller;
 use event_machine::{Setup, Trace};
+use event_world::World;
 use listed::Listed;
 use paired_work::work_all;
 use std::alloc::{AllocError, Global};
 use std::thread::Threads;
+
+/// A run that was recorded, and the world at its end.
+#[derive(Drop)]
+pub struct Recorded<C> {
+    pub trace: Trace,
+    pub world: World<C>,
+}
 
 /// Records a run of a setup, by as many workers as the setup says, at once. Worker i has the gate at index i - 1. Once all workers have
 /// left, the run is completed by the rule of one thread, as worker 0.
@@ -40,11 +49,34 @@ pub fn record<R: Threads + Sync, C: Controller, G: Gate>(
     ensures holding { IfOk result (λ trace. All (IsEntryOf setup.now) trace.entries) }
     ensures alone { IfOk result (λ trace. setup.now.limits.patience ≡ 0 → IsOneThreadRun C.react C.start setup.now trace) }
 {
+    let recorded = record_to_end(rt, alloc, setup, gates)?;
+    Ok(recorded.trace)
+}
+
+/// Records a run as `record` does, and gives the world at its end too.
+pub fn record_to_end<R: Threads + Sync, C: Controller, G: Gate>(
+    rt: &R,
+    alloc: Global,
+    setup: &Setup<C>,
+    gates: &mut [G],
+) -> Result<Recorded<C>, AllocError>
+    requires setup { IsValidSetup setup.now }
+    requires gates { setup.now.limits.workers ≤ length gates.old }
+    ensures legal { IfOk result (λ r. IsLegalRun C.react C.start setup.now r.trace) }
+    ensures dealt { IfOk result (λ r. AreDealt setup.now setup.now.limits.workers r.trace.entries) }
+    ensures last { IfOk result (λ r. RestComesLast r.trace.entries) }
+    ensures ruled { IfOk result (λ r. RestIsRuled C.react C.start setup.now r.trace.entries) }
+    ensures passes { IfOk result (λ r. TellsByPasses G.passes setup.now gates.old gates.new r.trace.entries) }
+    ensures holding { IfOk result (λ r. All (IsEntryOf setup.now) r.trace.entries) }
+    ensures alone { IfOk result (λ r. setup.now.limits.patience ≡ 0 → IsOneThreadRun C.react C.start setup.now r.trace) }
+    ensures world { IfOk result (λ r. r.world ≡ world_after C.react C.start setup.now r.trace) }
+    ensures fits { IfOk result (λ r. Fits C.policies setup.now r.world) }
+{
     let workers = setup.limits.workers;
     let (recorder, parts) = Recorder::open(alloc, setup, workers)?;
     let parts = served(rt, alloc, &recorder, parts, &mut gates[..workers as usize])?;
-    let (trace, _) = recorder.rest(parts)?;
-    Ok(trace)
+    let (trace, world) = recorder.rest(parts)?;
+    Ok(Recorded { trace, world })
 }
 
 // All workers go round at once, each with its own gate, until they have left. Worker 0 does not.

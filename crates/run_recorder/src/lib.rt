@@ -13,7 +13,7 @@ mod recorder;
 mod task;
 
 pub use answers::{Committed, Offered};
-pub use at_once::record;
+pub use at_once::{Recorded, record, record_to_end};
 pub use book::Subject;
 pub use drive::Left;
 pub use gate::{Gate, OpenGate};

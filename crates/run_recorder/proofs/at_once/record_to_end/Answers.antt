@@ -1,15 +1,16 @@
-use Rattle.std.proofs.Common.{◌++◌, All, arith, drop, length-take, refl, subst, sym, take}
+use Rattle.std.proofs.Common.{◌≡◌, ◌++◌, All, arith, drop, length-take, refl, subst, sym, take}
 use Rattle.std.proofs.lemmas.List.{take-append-drop}
 use Rattle.machine_setup.specs.declared.setup.Setup.{Setup}
+use Rattle.event_world.specs.Fits.{Fits}
 use Rattle.event_machine.specs.Holding.{IsEntryOf}
-use Rattle.event_machine.specs.Legal.{IsLegalRun}
+use Rattle.event_machine.specs.Legal.{IsLegalRun, world_after}
 use Rattle.run_recorder.specs.Answers.{AreDealt}
 use Rattle.run_recorder.specs.Rest.{RestIsRuled}
 use Rattle.run_recorder.proofs.Passes.{AreRecorded, one_thread, tells_of}
 use Rattle.run_recorder.specs.Recorder.{recorded}
-use Rattle.run_recorder.proofs.at_once.record.Given.{Over}
-use Rattle.run_recorder.proofs.at_once.record.Goals as goal
-use Rattle.run_recorder.proofs.at_once.record.Goals.{In_ok-trace}
+use Rattle.run_recorder.proofs.at_once.record_to_end.Given.{Over}
+use Rattle.run_recorder.proofs.at_once.record_to_end.Goals as goal
+use Rattle.run_recorder.proofs.at_once.record_to_end.Goals.{In_ok-trace}
 
 pub returns-clause-ruled : goal.returns-clause-ruled
 returns-clause-ruled g c =
@@ -48,3 +49,10 @@ returns-clause-alone g c =
     one_thread g.C.Controller.react g.C.Controller.start g.G.Gate.passes (recorded c.in_ok-recorder.recorder) c.args.setup.now (take c.args.setup.now.limits.workers c.args.gates.now) c.served.new.gates
     c.in_ok-recorder.parts c.in_ok-parts.parts c.in_ok-trace.trace (all g ((goal.at.returns-clause-alone g c).In_ok-trace)) c.requires.setup.bounds.workers.0
     (subst (λ n. AreDealt c.args.setup.now n c.in_ok-trace.trace.entries) c.in_ok-recorder.ensures.workers of_setup) (returns-clause-ruled g c)
+
+pub returns-clause-world : goal.returns-clause-world
+returns-clause-world g c =
+    subst (λ (setup : Setup g.row.C.Denot). c.in_ok-trace.world ≡ world_after g.C.Controller.react g.C.Controller.start setup c.in_ok-trace.trace) c.in_ok-recorder.ensures.setup c.in_ok-trace.ensures.world
+
+pub returns-clause-fits : goal.returns-clause-fits
+returns-clause-fits g c = subst (λ (setup : Setup g.row.C.Denot). Fits g.C.Controller.policies setup c.in_ok-trace.world) c.in_ok-recorder.ensures.setup c.in_ok-trace.ensures.fits
