@@ -3,3 +3,4 @@ pub mod Flags
 pub mod Inputs
 pub mod Left
 pub mod Needed
+pub mod OneReduction

@@ -11,16 +11,10 @@ use Rattle.event_machine.specs.Legal.{world_after}
 use Rattle.event_machine.specs.declared.trace.Trace.{Trace}
 use Rattle.causal_replay.specs.Replay.{IsReplay}
 use Rattle.causal_replay.specs.declared.replayed.Taken.{Taken}
-use Rattle.invariant_check.specs.Verdict.{IsVerdict}
+use Rattle.invariant_check.specs.Verdict.{IsVerdict, is_violated}
 use Rattle.invariant_check.specs.declared.walk.Verdict.{Verdict}
-use Rattle.invariant_check.specs.declared.walk.Verdict.TheVariants.{Holds, Violated}
 use Rattle.input_atoms.specs.Atoms.{atoms_of}
 use Rattle.input_atoms.specs.Ddmin.{IsReduced}
-
--- whether a verdict is that the invariant is violated
-abbrev pub is_violated : Verdict → Bool
-is_violated Holds = false
-is_violated (Violated host header walk) = true
 
 -- whether the position is one of an atom's
 abbrev pub has_position : List ℕ → ℕ → Bool

@@ -6,14 +6,13 @@ ghost use Rattle.event_world.specs.Fits.{Fits};
 ghost use Rattle.event_machine.specs.Legal.{IsLegalRun};
 ghost use Rattle.topology.specs.declared.invariant.Invariant.{Invariant};
 ghost use Rattle.invariant_check.specs.Network.{IsAsked};
-ghost use Rattle.causal_minimizer.specs.Failing.{AreEnough, Fails, IsFound, IsReplayWith, atoms_of_run, atoms_with, is_violated};
+ghost use Rattle.causal_minimizer.specs.Failing.{AreEnough, Fails, IsFound, IsReplayWith, atoms_of_run, atoms_with};
 
 use crate::marks::kept_with;
 use causal_replay::{Replayed, replay};
 use controller_api::Controller;
 use event_machine::{Setup, Trace, World};
 use input_atoms::{Atoms, Probe};
-use invariant_check::Verdict;
 use invariant_check::judge::verdict;
 use invariant_check::laws::the_network_of_a_world_can_be_judged;
 use std::alloc::{AllocError, Global};
@@ -89,11 +88,5 @@ pub(crate) fn is_violated_in<C: Controller>(
     the_network_of_a_world_can_be_judged::<C>();
     let network = world.network(setup)?;
     let verdict = verdict(alloc, &network, invariant)?;
-    Ok(is_violated(&verdict))
-}
-
-fn is_violated(verdict: &Verdict) -> bool
-    ensures { result ≡ is_violated verdict.now }
-{
-    matches!(verdict, Verdict::Violated { .. })
+    Ok(verdict.is_violated())
 }

@@ -9,7 +9,6 @@ use crate::worlds::{BACK, HOST_PORT, MOST_EVENTS, ONWARD, Size, links_of_line, r
 use anyhow::{Result, bail};
 use event_world::{NetState, Tables};
 use flow_table::{Command, Table, TableNo};
-use invariant_check::Verdict;
 use invariant_check::judge::verdicts;
 use invariant_check::laws::the_network_of_a_world_can_be_judged;
 use listed::Listed;
@@ -79,13 +78,9 @@ fn timed_verdicts<R: Clock + AllocGlobal>(rt: &R, net: &NetState) -> Result<Judg
     let time = start.elapsed(rt)?;
     let violated = verdicts
         .iter()
-        .filter(|verdict| is_violated(verdict))
+        .filter(|verdict| verdict.is_violated())
         .count();
     Ok(Judged { time, violated })
-}
-
-fn is_violated(verdict: &Verdict) -> bool {
-    matches!(verdict, Verdict::Violated { .. })
 }
 
 /// A line of switches with these tables, and a host at the first one.
