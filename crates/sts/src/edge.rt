@@ -23,7 +23,7 @@ pub(crate) fn help(status: Status) -> Option<&'static str>
 {
     match status {
         Status::WORDS => Some(
-            "usage:\n  sts record < SCENARIO   the log of a run\n  sts check < LOG         its invariants judged over every packet header\n  sts replay < LOG        its replay with all inputs",
+            "usage:\n  sts find < SCENARIO     the log of a run, its verdicts and, where an invariant is violated, the inputs that are enough for it\n  sts record < SCENARIO   the log of a run\n  sts check < LOG         its invariants judged over every packet header\n  sts replay < LOG        its replay with all inputs\n  sts reduce < LOG        the inputs that are enough for the first invariant that is violated at its end\n  sts gen SEED SIZE       what a run of a made-up scenario comes to",
         ),
         Status::READ_FAULT => Some("reading standard input failed"),
         Status::WRITE_FAULT => Some("writing standard output failed"),

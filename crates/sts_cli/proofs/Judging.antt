@@ -1,5 +1,5 @@
 -- The verdicts in a world.
-use Rattle.std.proofs.Common.{◌≡◌, ℕ, ◌≤◌, List, length, sym, subst, arith}
+use Rattle.std.proofs.Common.{◌≡◌, List, length, sym, subst}
 use Rattle.std.specs.Prelude.{Result, Ok, Err, IfOk}
 use Rattle.std.specs.List.{AllZip}
 use Rattle.std.proofs.lemmas.Slice.Zip.{AllZip-long}
@@ -11,7 +11,7 @@ use Rattle.controller_host.specs.Hosting.{Hosting}
 use Rattle.scenario_doc.specs.declared.scenario.Scenario.{Scenario}
 use Rattle.invariant_check.specs.Verdict.{IsVerdict}
 use Rattle.invariant_check.specs.declared.walk.Verdict.{Verdict}
-use Rattle.sts_cli.specs.Answer.{AreVerdicts}
+use Rattle.sts_cli.specs.Verdicts.{AreVerdicts}
 
 -- what a call judges
 abbrev Judges : NetState → List Invariant → List Verdict → Type 0
@@ -33,9 +33,3 @@ counted net list wanted (Ok verdicts) same are =
     let as_many = AllZip-long (λ invariant verdict. IsVerdict net invariant verdict) list verdicts are in
     subst (λ (l : List Invariant). length l ≡ length verdicts) same (sym as_many)
 counted net list wanted (Err why) same are = tt
-
--- and so no more than there may be
-pub bounded : {E : Type 0} (most : ℕ) (list : List Invariant) (result : Result (List Verdict) E) → length list ≤ most
-    → IfOk result (λ verdicts. length list ≡ length verdicts) → IfOk result (λ verdicts. length verdicts ≤ most)
-bounded most list (Ok verdicts) few same = omega arith
-bounded most list (Err why) few same = tt

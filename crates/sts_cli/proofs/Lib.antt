@@ -1,6 +1,10 @@
 pub mod Lone
 pub mod Judging
-pub mod Saying
+pub mod Told
+pub mod Violated
 pub mod Recorded
+pub mod FoundWhole
 pub mod Ending
+pub mod OneConclusion
+pub mod OneFinding
 pub mod Unique

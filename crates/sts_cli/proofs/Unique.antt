@@ -1,8 +1,7 @@
 -- Bytes have one answer.
-use Rattle.std.proofs.Common.{◌≡◌, ℕ, ◌<◌, Bool, List, [], ◌∷◌, length, slice_get, Some, Ok, Err, refl, sym, ◌∙◌, ap, ap₂, subst, inl, inr}
+use Rattle.std.proofs.Common.{◌≡◌, ℕ, ◌<◌, Bool, List, length, slice_get, Some, Ok, Err, refl, sym, ◌∙◌, ap, ap₂, subst, inl, inr}
 use Rattle.std.proofs.lemmas.Option.{slice_get_within}
 use Rattle.std.proofs.lemmas.Bool.{cases_order}
-use Rattle.std.specs.List.{AllZip}
 use Rattle.controller_api.specs.Reaction.{Reaction}
 use Rattle.controller_api.specs.declared.item.UpItem.{UpItem}
 use Rattle.machine_setup.specs.declared.setup.Setup.{Setup}
@@ -19,18 +18,16 @@ use Rattle.log_doc.specs.declared.log.Log.{Log}
 use Rattle.log_doc.specs.Log.{log_of}
 use Rattle.causal_replay.specs.Replay.{IsReplay}
 use Rattle.causal_replay.specs.declared.replayed.Taken.{Taken}
-use Rattle.event_world.specs.Answers.{network_of}
-use Rattle.event_world.specs.declared.net_state.NetState.{NetState}
-use Rattle.topology.specs.declared.invariant.Invariant.{Invariant}
 use Rattle.scenario_doc.specs.declared.scenario.Scenario.{Scenario}
-use Rattle.invariant_check.specs.Verdict.{IsVerdict}
-use Rattle.invariant_check.specs.declared.walk.Verdict.{Verdict}
 use Rattle.report_text.specs.Replays.{replay_text}
 use Rattle.report_text.specs.Verdicts.{verdicts_text}
 use Rattle.sts_cli.specs.Lines.{refused_line, wrong_line}
-use Rattle.sts_cli.specs.Answer.{AreVerdicts, IsCheck, IsIllegal, IsJob, IsJudged, IsOfLog, IsRefusal, IsWholeReplay, all_kept, first_violated, judging_code}
+use Rattle.sts_cli.specs.Answer.{IsIllegal, IsJob, IsJudged, IsOfLog, IsRefusal}
+use Rattle.sts_cli.specs.Recorded.{IsWholeReplay, all_kept}
+use Rattle.sts_cli.specs.Verdicts.{AreVerdicts, IsCheck, first_violated, judging_code}
 use Rattle.sts_cli.specs.declared.words.Job.{Job}
-use Rattle.sts_cli.specs.declared.words.Job.TheVariants.{Check, Replay}
+use Rattle.sts_cli.specs.declared.words.Job.TheVariants.{Check, Replay, Reduce}
+use Rattle.sts_cli.proofs.OneConclusion.{IsJudgedOnce, IsReducedOnce, one_sequence, verdicts_once}
 
 -- the bytes are one log at most
 one_log : (bytes : List ℕ) (l m : Log) → IsText log_of bytes l → IsText log_of bytes m → l ≡ m
@@ -152,34 +149,16 @@ module _ {C : Type 0} where
 
 -- ---- what is said of a log
 
--- of a network and an invariant there is one verdict
-abbrev IsJudgedOnce : Type 0
-IsJudgedOnce = (net : NetState) (invariant : Invariant) (one other : Verdict) → IsVerdict net invariant one → IsVerdict net invariant other → one ≡ other
-
 -- entries have at most one replay for each choice of lines
 abbrev IsDetermined : Type 0
 IsDetermined = (setup : Setup Hosting) (entries : List Entry) (keep : List Bool) (run other_run : List Taken) (absent other_absent : List ℕ) (world other_world : Situation Hosting)
     → IsReplay hosting starting setup entries keep run absent world → IsReplay hosting starting setup entries keep other_run other_absent other_world
     → (run ≡ other_run) × (absent ≡ other_absent) × (world ≡ other_world)
 
--- where each element has one partner at most, a list has one list of partners at most
-one_list : {A B : Type 0} (P : A → B → Type 0) → ((x : A) (y z : B) → P x y → P x z → y ≡ z) → (xs : List A) (ys zs : List B) → AllZip P xs ys → AllZip P xs zs → ys ≡ zs
-one_list P one [] [] [] a b = refl
-one_list P one (x ∷ xs) (y ∷ ys) (z ∷ zs) a b = ap₂ (λ v vs. v ∷ vs) (one x y z a.0 b.0) (one_list P one xs ys zs a.1 b.1)
-one_list P one [] (y ∷ ys) zs a b = absurd a
-one_list P one [] [] (z ∷ zs) a b = absurd b
-one_list P one (x ∷ xs) [] zs a b = absurd a
-one_list P one (x ∷ xs) (y ∷ ys) [] a b = absurd b
-
--- a scenario has one list of verdicts in a world
-one_judgement : (scenario : Scenario) (world : Situation Hosting) (one other : List Verdict) → IsJudgedOnce → AreVerdicts scenario world one → AreVerdicts scenario world other → one ≡ other
-one_judgement scenario world one other once a b =
-    one_list (λ invariant verdict. IsVerdict (network_of scenario.setup.topology world) invariant verdict) (once (network_of scenario.setup.topology world)) scenario.invariants one other a b
-
 -- the verdicts have one text and one status
 one_check : (scenario : Scenario) (world : Situation Hosting) (code other : ℕ) (text more : List ℕ) → IsJudgedOnce → IsCheck scenario world code text → IsCheck scenario world other more → (code ≡ other) × (text ≡ more)
 one_check scenario world code other text more once (verdicts, are, status, is) (others, are', status', is') =
-    let same : verdicts ≡ others = one_judgement scenario world verdicts others once are are' in
+    let same : verdicts ≡ others = verdicts_once once scenario world verdicts others are are' in
     (status ∙ ap (λ v. judging_code (first_violated v)) same ∙ sym status', is ∙ ap (λ v. verdicts_text scenario.invariants v) same ∙ sym is')
 
 -- a log has one text of its replay
@@ -187,13 +166,14 @@ one_text : (log : Log) (text more : List ℕ) → IsDetermined → IsJudgedOnce 
 one_text log text more one once (run, absent, world, verdicts, left, are, is) (other_run, other_absent, other_world, others, right, are', is') =
     let same = one log.scenario.setup log.trace.entries (all_kept log) run other_run absent other_absent world other_world left right in
     let there : AreVerdicts log.scenario world others = subst (λ (w : Situation Hosting). AreVerdicts log.scenario w others) (sym same.2) are' in
-    let judged : verdicts ≡ others = one_judgement log.scenario world verdicts others once are there in
+    let judged : verdicts ≡ others = verdicts_once once log.scenario world verdicts others are there in
     is ∙ ap (λ v. replay_text run absent (first_violated v)) judged ∙ ap₂ (λ (r : List Taken) (a : List ℕ). replay_text r a (first_violated others)) same.0 same.1 ∙ sym is'
 
 -- a job has one answer
-one_job : (job : Job) (log : Log) (code other : ℕ) (text more : List ℕ) → IsDetermined → IsJudgedOnce → IsJob job log code text → IsJob job log other more → (code ≡ other) × (text ≡ more)
-one_job Check log code other text more one once a b = one_check log.scenario (world_after hosting starting log.scenario.setup log.trace) code other text more once a b
-one_job Replay log code other text more one once a b = (a.0 ∙ sym b.0, one_text log text more one once a.1 b.1)
+one_job : (job : Job) (log : Log) (code other : ℕ) (text more : List ℕ) → IsDetermined → IsJudgedOnce → IsReducedOnce → IsJob job log code text → IsJob job log other more → (code ≡ other) × (text ≡ more)
+one_job Check log code other text more one once reduced a b = one_check log.scenario (world_after hosting starting log.scenario.setup log.trace) code other text more once a b
+one_job Replay log code other text more one once reduced a b = (a.0 ∙ sym b.0, one_text log text more one once a.1 b.1)
+one_job Reduce log code other text more one once reduced a b = one_sequence reduced once log.scenario log.trace code other text more a b
 
 -- what is wrong with a log has one text
 one_illegal : (log : Log) (text more : List ℕ) → IsIllegal log text → IsIllegal log more → text ≡ more
@@ -201,10 +181,10 @@ one_illegal log text more (why, wrong, cause, is) (other, wrong', cause', is') =
     is ∙ ap wrong_line (one_wrong hosting starting log.scenario.setup log.trace why other wrong wrong' cause cause') ∙ sym is'
 
 -- what is said of a log is one thing
-one_saying : (job : Job) (log : Log) (code other : ℕ) (text more : List ℕ) → IsDetermined → IsJudgedOnce → IsJudged job log code text → IsJudged job log other more → (code ≡ other) × (text ≡ more)
-one_saying job log code other text more one once a b = elim a [
+one_saying : (job : Job) (log : Log) (code other : ℕ) (text more : List ℕ) → IsDetermined → IsJudgedOnce → IsReducedOnce → IsJudged job log code text → IsJudged job log other more → (code ≡ other) × (text ≡ more)
+one_saying job log code other text more one once reduced a b = elim a [
   | inl x ↦ elim b [
-    | inl y ↦ one_job job log code other text more one once x.1 y.1
+    | inl y ↦ one_job job log code other text more one once reduced x.1 y.1
     | inr y ↦ absurd (legal_or_wrong hosting starting log.scenario.setup log.trace y.1.0 x.0 y.1.1 y.1.2)
   ]
   | inr x ↦ elim b [
@@ -221,12 +201,12 @@ one_refusal bytes code other text more a b =
     let path = one.1 in
     (a.0 ∙ sym b.0, a.1.3 ∙ ap (λ n. refused_line n a.1.1) number ∙ ap (λ p. refused_line b.1.0 p) path ∙ sym b.1.3)
 
-pub one_answer : IsDetermined → IsJudgedOnce → (job : Job) (bytes : List ℕ) (code other : ℕ) (text more : List ℕ) → IsOfLog job bytes code text → IsOfLog job bytes other more → (code ≡ other) × (text ≡ more)
-one_answer one once job bytes code other text more a b = elim a [
+pub one_answer : IsDetermined → IsJudgedOnce → IsReducedOnce → (job : Job) (bytes : List ℕ) (code other : ℕ) (text more : List ℕ) → IsOfLog job bytes code text → IsOfLog job bytes other more → (code ≡ other) × (text ≡ more)
+one_answer one once reduced job bytes code other text more a b = elim a [
   | inl x ↦ elim b [
     | inl y ↦
         let log : y.0 ≡ x.0 = one_log bytes y.0 x.0 y.1 x.1 in
-        one_saying job x.0 code other text more one once x.2 (subst (λ (l : Log). IsJudged job l other more) log y.2)
+        one_saying job x.0 code other text more one once reduced x.2 (subst (λ (l : Log). IsJudged job l other more) log y.2)
     | inr y ↦ absurd (log_or_refused bytes x.0 y.1.0 y.1.1 x.1 y.1.2)
   ]
   | inr x ↦ elim b [

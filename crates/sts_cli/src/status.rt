@@ -25,4 +25,6 @@ impl Status {
     pub const OUT_OF_MEMORY: Status = Status { code: 7 };
     /// The input is longer than 16,777,216 bytes. Nothing is written.
     pub const TOO_LONG: Status = Status { code: 8 };
+    /// There is nothing to reduce, and the output says so: no invariant is violated at the log's end.
+    pub const NOT_VIOLATED: Status = Status { code: 9 };
 }

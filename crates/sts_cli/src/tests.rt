@@ -13,6 +13,13 @@ use sts_io::{MemSink, MemSource};
 const LOG: &str =
     "{\"end\":\"quiet\",\"entries\":[[0,0,\"in\",0],[0,1,\"pkt\",0,1,0,\"000000000001000000000002ffff00080000060000000a0000001403e800500000000700\"]],\"scenario\":{\"budget\":0,\"controllers\":[],\"hosts\":[[0,1,1],[0,2,2]],\"invariants\":[],\"links\":[],\"max_events\":100,\"patience\":0,\"script\":[[0,\"inject\",0,[1,2,65535,0,2048,0,6,10,20,1000,80],7]],\"sts\":1,\"switches\":[[2,null,[]]],\"workers\":1},\"sts\":1}";
 
+// That scenario without its script, and the log of its run.
+const IDLE: &str =
+    "{\"budget\":0,\"controllers\":[],\"hosts\":[[0,1,1],[0,2,2]],\"invariants\":[],\"links\":[],\"max_events\":100,\"patience\":0,\"script\":[],\"sts\":1,\"switches\":[[2,null,[]]],\"workers\":1}";
+
+const IDLE_LOG: &str =
+    "{\"end\":\"quiet\",\"entries\":[],\"scenario\":{\"budget\":0,\"controllers\":[],\"hosts\":[[0,1,1],[0,2,2]],\"invariants\":[],\"links\":[],\"max_events\":100,\"patience\":0,\"script\":[],\"sts\":1,\"switches\":[[2,null,[]]],\"workers\":1},\"sts\":1}\nno violation\n";
+
 // Its scenario.
 const SCENARIO: &str =
     "{\"budget\":0,\"controllers\":[],\"hosts\":[[0,1,1],[0,2,2]],\"invariants\":[],\"links\":[],\"max_events\":100,\"patience\":0,\"script\":[[0,\"inject\",0,[1,2,65535,0,2048,0,6,10,20,1000,80],7]],\"sts\":1,\"switches\":[[2,null,[]]],\"workers\":1}";
@@ -118,7 +125,31 @@ fn the_log_of_a_scenario(rt: HostRuntime) -> Result<(), Fail> {
     assert_eq!(rt; written.pop(), Some(b'\n'));
     assert_eq!(rt; written.as_slice(), LOG.as_bytes());
     let (status, written) = run(&rt, "record", padded(rt.alloc(), LOG, 0)?)?;
-    assert_eq!(rt; (status.code, written.as_slice()), (3, b"refused 3 at /budget\n".as_slice()));
+    assert_eq!(rt;
+        (status.code, written.as_slice()),
+        (3, b"refused 3 at /budget\n".as_slice())
+    );
+    Ok(())
+}
+
+#[test]
+fn nothing_is_violated(rt: HostRuntime) -> Result<(), Fail> {
+    let (status, written) = run(&rt, "find", padded(rt.alloc(), IDLE, 0)?)?;
+    assert_eq!(rt; (status.code, written.as_slice()), (0, IDLE_LOG.as_bytes()));
+    let (status, written) = run(&rt, "reduce", padded(rt.alloc(), LOG, 0)?)?;
+    assert_eq!(rt;
+        (status.code, written.as_slice()),
+        (9, b"no violation\n".as_slice())
+    );
+    Ok(())
+}
+
+#[test]
+fn a_made_up_scenario_is_summed_up(rt: HostRuntime) -> Result<(), Fail> {
+    let (status, written) = run(&rt, "gen 0 3", Vec::new(rt.alloc()))?;
+    let wanted =
+        "gen 0 3\nentries 61 end quiet\nverdict 0 loop holds\nverdict 1 blackhole holds\nno violation\n";
+    assert_eq!(rt; (status.code, written.as_slice()), (0, wanted.as_bytes()));
     Ok(())
 }
 
@@ -126,12 +157,15 @@ fn the_log_of_a_scenario(rt: HostRuntime) -> Result<(), Fail> {
 fn words_that_are_no_form(rt: HostRuntime) -> Result<(), Fail> {
     for line in [
         "",
-        "find",
         "Replay",
         "replay replay",
         "--help",
         "causes 007",
         "gen 1 2",
+        "gen 1 65",
+        "gen 01 3",
+        "gen +1 3",
+        "gen 18446744073709551616 3",
     ] {
         let (status, written) = run(&rt, line, padded(rt.alloc(), LOG, 0)?)?;
         assert_eq!(rt; (status.code, written.len()), (2, 0), "at {line}");
@@ -141,9 +175,9 @@ fn words_that_are_no_form(rt: HostRuntime) -> Result<(), Fail> {
 
 #[test]
 fn faults_of_the_ends(rt: HostRuntime) -> Result<(), Fail> {
-    let words = words(rt.alloc(), "replay")?;
+    let words = words(rt.alloc(), "find")?;
     let mut gates = open_gates();
-    let mut source = MemSource::new(padded(rt.alloc(), LOG, 0)?, 100, Vec::new(rt.alloc()));
+    let mut source = MemSource::new(padded(rt.alloc(), IDLE, 0)?, 100, Vec::new(rt.alloc()));
     let mut sink = MemSink::new(rt.alloc(), 100, 16, vec![in rt.alloc(); 1]?)?;
     let cut_off = sts(
         &rt,
@@ -154,9 +188,9 @@ fn faults_of_the_ends(rt: HostRuntime) -> Result<(), Fail> {
         &mut gates,
     );
     assert_eq!(rt; cut_off.code, 6);
-    assert_eq!(rt; sink.taken(), b"replay 2 steps\n0".as_slice());
+    assert_eq!(rt; sink.taken(), b"{\"end\":\"quiet\",\"".as_slice());
 
-    let mut source = MemSource::new(padded(rt.alloc(), LOG, 0)?, 100, vec![in rt.alloc(); 0]?);
+    let mut source = MemSource::new(padded(rt.alloc(), IDLE, 0)?, 100, vec![in rt.alloc(); 0]?);
     let mut sink = MemSink::new(rt.alloc(), 100, 16, Vec::new(rt.alloc()))?;
     let unread = sts(
         &rt,

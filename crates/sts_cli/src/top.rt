@@ -1,17 +1,19 @@
 //! The top call.
-ghost use Rattle.std.specs.Prelude.{◌≡◌, ◌≢◌, ◌+◌, ◌≤◌, ◌↔◌, ◌⊎◌, length};
+ghost use Rattle.std.specs.Prelude.{◌≡◌, ◌≢◌, ◌+◌, ◌≤◌, ◌↔◌, ◌⊎◌, IfOk, IsOk, IsErrOf, Err, length};
 ghost use Rattle.sts_io.specs.Causes.{Rose};
+ghost use Rattle.sts_io.specs.declared.reading.ReadFail.TheVariants as ReadFail;
 ghost use Rattle.sts_io.specs.Taken.{TakesAtMost, TakesCount};
 ghost use Rattle.run_recorder.specs.AtOnce.{TellsByPasses};
-ghost use Rattle.sts_cli.specs.Ends.{IsAnswered, IsCutOff, IsSilent, IsTold};
-ghost use Rattle.sts_cli.specs.Words.{AreWords, IsForm};
-ghost use Rattle.sts_cli.specs.declared.words.Form.TheVariants.{Record};
+ghost use Rattle.sts_cli.specs.Answer.{IsAnswer};
+ghost use Rattle.sts_cli.specs.Ends.{IsAnswered, IsCutOff, IsRead, IsSilent, IsTold};
+ghost use Rattle.sts_cli.specs.Words.{AskForMade, AskForRun, HasRange, IsForm, IsMadeUp, IsRunOf};
 
-use crate::answer::answer_to;
+use crate::answer::{Answer, of_log, of_scenario};
+use crate::made::made;
 use crate::status::Status;
-use crate::words::form_of;
+use crate::words::{Form, form_of};
 use run_recorder::Gate;
-use std::alloc::Global;
+use std::alloc::{AllocError, Global};
 use std::thread::Threads;
 use sts_io::{ReadFail, Sink, Source, read_all, write_all_bytes};
 
@@ -19,7 +21,8 @@ use sts_io::{ReadFail, Sink, Source, read_all, write_all_bytes};
 const LIMIT: u64 = 16_777_216;
 
 /// Runs the program: reads the source to its end, and writes the answer to the sink. The words are those after the
-/// program's name: `record`, `check` or `replay`. Workers that record pass the gates, worker i that at index i - 1.
+/// program's name: `find`, `record`, `check`, `replay`, `reduce` or `gen SEED SIZE`, which reads nothing. Workers that record pass the
+/// gates, worker i that at index i - 1.
 pub fn sts<R: Threads + Sync, S: Source, K: Sink, G: Gate>(
     rt: &R,
     alloc: Global,
@@ -54,8 +57,11 @@ pub fn sts<R: Threads + Sync, S: Source, K: Sink, G: Gate>(
     ensures silent { IsSilent result.code → sink.new ≡ sink.old }
     ensures known { IsTold result.code ⊎ ((result.code ≡ 6) ⊎ IsSilent result.code) }
 
+    // A made-up scenario needs no source.
+    ensures made { AskForMade words.now → (source.new ≡ source.old) × (result.code ≢ 5) × (result.code ≢ 8) }
+
     // Nobody passes a gate but where a run is recorded.
-    ensures gates { (¬ AreWords words.now Record) → gates.new ≡ gates.old }
+    ensures gates { (¬ AskForRun words.now) → gates.new ≡ gates.old }
 
     // Counts of faults never fall.
     ensures source_later { S.faults source.old ≤ S.faults source.new }
@@ -64,7 +70,7 @@ pub fn sts<R: Threads + Sync, S: Source, K: Sink, G: Gate>(
     let Some(form) = form_of(words) else {
         return Status::WORDS;
     };
-    let bytes = match read_all(alloc, source, LIMIT) {
+    let bytes = match input(alloc, form, source) {
         Ok(bytes) => bytes,
         Err(ReadFail::Fault) => return Status::READ_FAULT,
         Err(ReadFail::TooLong) => return Status::TOO_LONG,
@@ -76,5 +82,42 @@ pub fn sts<R: Threads + Sync, S: Source, K: Sink, G: Gate>(
     match write_all_bytes(sink, answer.text.as_slice()) {
         Ok(()) => answer.status,
         Err(_) => Status::WRITE_FAULT,
+    }
+}
+
+// What the source gives for a form: all its bytes, or none where a scenario is made up.
+fn input<S: Source>(alloc: Global, form: Form, source: &mut S) -> Result<Vec<u8>, ReadFail>
+    ensures read { IfOk result (λ bytes. IsRead form (S.left source.old) (S.left source.new) bytes.items) }
+    ensures within { result ≢ Err ReadFail.TooLong → TakesAtMost 16777216 (S.left source.old) (S.left source.new) }
+    ensures too_long { IsErrOf result ReadFail.TooLong → TakesCount (16777216 + 1) (S.left source.old) (S.left source.new) }
+    ensures later { S.faults source.old ≤ S.faults source.new }
+    ensures fault { IsErrOf result ReadFail.Fault → Rose (S.faults source.old) (S.faults source.new) }
+    ensures no_fault { result ≢ Err ReadFail.Fault → S.faults source.new ≡ S.faults source.old }
+    ensures made { IsMadeUp form → (source.new ≡ source.old) × IsOk result }
+{
+    match form {
+        Form::Gen { .. } => Ok(Vec::new(alloc)),
+        Form::OfScenario(_) | Form::OfLog(_) => read_all(alloc, source, LIMIT),
+    }
+}
+
+// The answer to what a form asks of some bytes.
+fn answer_to<R: Threads + Sync, G: Gate>(
+    rt: &R,
+    alloc: Global,
+    form: Form,
+    bytes: &[u8],
+    gates: &mut [G],
+) -> Result<Answer, AllocError>
+    requires gates { length gates.old ≡ 8 }
+    requires range { HasRange form }
+    ensures answer { IfOk result (λ answer. IsAnswer (λ setup entries. TellsByPasses G.passes setup gates.old gates.new entries) form bytes.now answer.status.code answer.text.items) }
+    ensures told { IfOk result (λ answer. IsTold answer.status.code) }
+    ensures idle { (¬ IsRunOf form) → gates.new ≡ gates.old }
+{
+    match form {
+        Form::OfScenario(aim) => of_scenario(rt, alloc, aim, bytes, gates),
+        Form::OfLog(job) => of_log(alloc, job, bytes),
+        Form::Gen { seed, size } => made(rt, alloc, seed, size),
     }
 }

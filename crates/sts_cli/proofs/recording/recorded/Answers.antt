@@ -1,38 +1,29 @@
-use Rattle.std.proofs.Common.{◌∙◌, ◌++◌, ◌<◌, ◌^◌, List, ℕ, ap, arith, refl, subst}
-use Rattle.doc_forms.specs.Texts.{IsText}
-use Rattle.log_doc.specs.Log.{log_of}
-use Rattle.log_doc.specs.Written.{IsWritableLog}
-use Rattle.log_doc.specs.declared.log.Log.{Log}
-use Rattle.report_text.specs.Events.{line_feed}
-use Rattle.sts_cli.proofs.Recorded.{all_named}
+use Rattle.std.proofs.Common.{◌≡◌, ◌≤◌, All, length, subst, sym}
+use Rattle.std.proofs.lemmas.Result.{IfOk-weaker}
+use Rattle.machine_setup.specs.Setup.{IsValidSetup}
+use Rattle.event_machine.specs.Legal.{IsLegalRun}
+use Rattle.controller_host.specs.Hosting.{hosting, starting}
+use Rattle.scenario_doc.specs.declared.scenario.Scenario.{Scenario}
+use Rattle.invariant_check.specs.Network.{IsAsked}
+use Rattle.sts_cli.proofs.FoundWhole.{aimed}
 use Rattle.sts_cli.proofs.recording.recorded.Goals as goal
 
-pub write_log-requires : goal.write_log-requires
-write_log-requires g c = c.a_legal_run_can_be_written.ensures.items c.args.scenario.setup c.in_ok-trace.trace c.in_ok-trace.ensures.holding
+pub found-requires-clause-setup : goal.found-requires-clause-setup
+found-requires-clause-setup g c = subst (λ (s : Scenario). IsValidSetup s.setup) (sym c.in_ok-recording.ensures.recorded.of) c.requires.setup
 
-pub returns-clause-log : goal.returns-clause-log
-returns-clause-log g c =
-    let setup = c.args.scenario.setup in
-    let trace = c.in_ok-trace.trace in
-    let log : Log = record { scenario = c.args.scenario; trace = trace } in
-    let run = c.in_ok-trace.ensures in
-    let law = c.a_legal_run_can_be_written.ensures in
-    let bounds = c.requires.setup.bounds.workers in
-    let few : setup.limits.workers < 2 ^ 32 = let most = bounds.1 in omega arith in
-    let writable : IsWritableLog log = record {
-      scenario = c.requires.writable;
-      few = law.few setup trace c.requires.setup run.legal;
-      entries = law.entries setup setup.limits.workers trace c.requires.setup run.legal run.holding
-          (all_named setup setup.limits.workers bounds.0 trace.entries run.dealt) few;
-    } in
-    let text = c.in_ok-text.ensures.text in
-    (log, record {
-      of = refl;
-      legal = run.legal;
-      dealt = run.dealt;
-      last = run.last;
-      ruled = run.ruled;
-      passes = run.passes;
-      alone = run.alone;
-    }, (c.in_ok-push.ensures.items ∙ ap (λ (t : List ℕ). t ++ line_feed) text,
-        subst (λ (t : List ℕ). IsText log_of t log) text (c.in_ok-text.ensures.reads_back writable)))
+pub found-requires-clause-asked : goal.found-requires-clause-asked
+found-requires-clause-asked g c = subst (λ (s : Scenario). All IsAsked s.invariants) (sym c.in_ok-recording.ensures.recorded.of) c.requires.asked
+
+pub found-requires-clause-few : goal.found-requires-clause-few
+found-requires-clause-few g c = subst (λ (s : Scenario). length s.invariants ≤ 32) (sym c.in_ok-recording.ensures.recorded.of) c.requires.few
+
+pub found-requires-clause-legal : goal.found-requires-clause-legal
+found-requires-clause-legal g c =
+    subst (λ (s : Scenario). IsLegalRun hosting starting s.setup c.in_ok-recording.recording.log.trace) (sym c.in_ok-recording.ensures.recorded.of) c.in_ok-recording.ensures.recorded.legal
+
+pub returns-in-Find : goal.returns-in-Find
+returns-in-Find g c =
+    let recording = c.in_ok-recording.recording in
+    let run = c.in_ok-recording.ensures in
+    IfOk-weaker c.found.result _ _ (λ answer judged. aimed _ c.a_legal_run_replays_whole.ensures c.args.scenario recording.log recording.line.items run.recorded run.line
+    c.args.aim c.in-Find.is answer.status.code answer.text.items judged) c.found.ensures
