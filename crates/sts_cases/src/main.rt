@@ -1,5 +1,6 @@
 //! Runs worked cases in memory, and prints what each gives. A case is a line of `cases.txt`: `open` or `meet`, a word of the program, and
-//! the file of a document; or `keep`, positions of lines of a script with commas between them, and the file of a log.
+//! the file of a document; `keep`, positions of lines of a script with commas between them, and the file of a log; or `settle`, and the file
+//! of a scenario in which nothing is violated.
 #![tactic(auto)]
 
 mod kept;
@@ -7,7 +8,7 @@ mod meeting;
 mod program;
 
 use crate::kept::print_kept;
-use crate::program::{print_met, print_open};
+use crate::program::{print_met, print_open, print_settled};
 use std::{fs, io};
 
 fn main(rt: HostRuntime) -> io::Result<()> {
@@ -21,6 +22,7 @@ fn main(rt: HostRuntime) -> io::Result<()> {
         match words.as_slice() {
             ["open", word, file] => print_open(&rt, word, file)?,
             ["meet", word, file] => print_met(&rt, word, file)?,
+            ["settle", file] => print_settled(&rt, file)?,
             ["keep", positions, file] => print_kept(&rt, positions, file)?,
             _ => println!(rt; "no case")?,
         }

@@ -36,9 +36,53 @@ pub(crate) fn print_met<R: Files + AllocGlobal + Print + Threads + Sync>(
     println!(rt; "met {met}, recorded {recorded}, status {}", status.code)
 }
 
-// Whether the bytes are a log in which worker 1 or worker 2 has an entry.
-fn is_recorded(alloc: Global, bytes: &[u8]) -> bool {
-    let Ok(log) = read_log(alloc, bytes) else {
+/// Prints what the program finds of a scenario, and what its other words say of the log that it found, but for what differs from run to
+/// run: the log and the steps of a replay.
+pub(crate) fn print_settled<R: Files + AllocGlobal + Print + Threads + Sync>(
+    rt: &R,
+    file: &str,
+) -> io::Result<()> {
+    let document = fs::read(rt, file)?;
+    let (status, found) = run(rt, "find", document, &mut open_gates())?;
+    print_rest(rt, "find", status, found.as_slice())?;
+    for word in ["check", "replay", "reduce"] {
+        let log = first_line(found.as_slice()).to_vec(rt.alloc())?;
+        let (status, text) = run(rt, word, log, &mut open_gates())?;
+        print_rest(rt, word, status, text.as_slice())?;
+    }
+    Ok(())
+}
+
+// Prints the lines that are the same in each run, and the status.
+fn print_rest<R: Print>(rt: &R, word: &str, status: Status, text: &[u8]) -> io::Result<()> {
+    for line in text.split(|byte| *byte == b'\n') {
+        if is_told(line) {
+            rt.write_all(line)?;
+            rt.write_all(b"\n")?;
+        }
+    }
+    println!(rt; "{word}: status {}", status.code)
+}
+
+// Whether a line is the same in each run: no log, no step, and not how many steps there are.
+fn is_told(line: &[u8]) -> bool {
+    match line.first() {
+        Some(byte) => *byte != b'{' && !byte.is_ascii_digit() && !line.starts_with(b"replay "),
+        None => false,
+    }
+}
+
+// The bytes up to the first line feed.
+fn first_line(text: &[u8]) -> &[u8] {
+    match text.iter().position(|byte| *byte == b'\n') {
+        Some(end) => &text[..end],
+        None => text,
+    }
+}
+
+// Whether the first line is a log in which worker 1 or worker 2 has an entry.
+fn is_recorded(alloc: Global, text: &[u8]) -> bool {
+    let Ok(log) = read_log(alloc, first_line(text)) else {
         return false;
     };
     for entry in log.trace.entries.iter() {
@@ -60,7 +104,7 @@ fn run<R: AllocGlobal + Threads + Sync, G: Gate>(
     let mut words = Vec::new(alloc);
     words.push(word.to_string(alloc)?)?;
     let mut source = MemSource::new(document, 1 << 16, Vec::new(alloc));
-    let mut sink = MemSink::new(alloc, 1 << 16, 1 << 16, Vec::new(alloc))?;
+    let mut sink = MemSink::new(alloc, 1 << 20, 1 << 16, Vec::new(alloc))?;
     let status = sts(rt, alloc, words.as_slice(), &mut source, &mut sink, gates);
     Ok((status, sink.taken().to_vec(alloc)?))
 }
